@@ -1,0 +1,52 @@
+-- The run: what a script gives, whole.
+use Prim.Native.Nat.{ℕ}
+use mathlib.Core.List.{List, [], _∷_, _++_}
+use lib.ListN.{length, drop, replicate}
+use lib.Ieee.{Float}
+use Rattle.model.specs.State.{Solver, f64-zero, initial, with-state}
+use Rattle.model.specs.Intake.{add-clause}
+use Rattle.model.specs.Search as Search
+use Rattle.model.specs.Script.{Config, Record, clause, solve, refused, accepted, read, work-needed}
+
+-- the out cells of records, each from the state that the one before it left
+unfoldable pub answers : Config → List Record → Solver → List ℕ
+answers cfg [] x = []
+answers cfg (clause c ∷ rs) x =
+    let r = add-clause cfg (x .state) c in
+    r .answer ∷ answers cfg rs (with-state x (r .state))
+answers cfg (solve assumptions budget ∷ rs) x =
+    let r = Search.solve cfg x assumptions budget in
+    r .answer ++ answers cfg rs (r .solver)
+
+unfoldable pub run : Config → List Record → List ℕ
+run cfg rs = answers cfg rs (initial (cfg .variables))
+
+-- ---- the entry: its answer, and what the lent slices hold afterwards
+
+-- the number and the place of a refusal, or how many out cells the run wrote
+pub data Answer : Type 0 where
+  turned-back : ℕ → ℕ → Answer
+  ran : ℕ → Answer
+
+pub record After : Type 0 where
+  pub answer : Answer
+  pub work : List ℕ
+  pub activities : List Float
+  pub out : List ℕ
+
+-- A refusal writes nothing. Else out begins with the run's cells, the run's part of work and of the activities is zero, and all the rest is as found.
+unfoldable pub after : List ℕ → List ℕ → List Float → List ℕ → After
+after script work activities out =
+    elim (read script (length work) (length activities) (length out)) [
+      | refused number place ↦ record { answer = turned-back number place; work = work; activities = activities; out = out }
+      | accepted cfg rs ↦
+          let cells = run cfg rs in
+          let used = work-needed cfg in
+          let vars = cfg .variables in
+          record {
+            answer = ran (length cells);
+            work = replicate used 0 ++ drop used work;
+            activities = replicate vars f64-zero ++ drop vars activities;
+            out = cells ++ drop (length cells) out;
+          }
+    ]

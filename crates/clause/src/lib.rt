@@ -11,7 +11,9 @@ pub struct Lit(pub u32);
 
 // The values of a variable and of a literal.
 pub const TRUE: u32 = 0;
+
 pub const FALSE: u32 = 1;
+
 pub const UNDEF: u32 = 2;
 
 impl Lit {

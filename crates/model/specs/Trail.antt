@@ -43,26 +43,32 @@ saved-part zero vs level = []
 saved-part (suc zero) vs level = drop (suc (getD (vs .limits) (decision-level vs - 1) 0)) (vs .trail)
 saved-part (suc (suc phase)) vs level = drop (getD (vs .limits) level 0) (vs .trail)
 
+-- where on the trail the literals above `level` start
+abbrev pub level-end : VarState → ℕ → ℕ
+level-end vs level = getD (vs .limits) level 0
+
+-- the assignment without what stands above `level`; levels and reasons of what goes are left as they are
+unfoldable pub vars-until : VarState → ℕ → VarState
+vars-until vs level =
+    record {
+      values = unset (vs .values) (drop (level-end vs level) (vs .trail));
+      levels = vs .levels;
+      reasons = vs .reasons;
+      trail = take (level-end vs level) (vs .trail);
+      limits = take level (vs .limits);
+    }
+
 -- back to `level`: its assignments stay, those above it go
 unfoldable pub cancel-until : ℕ → State → ℕ → State
 cancel-until phase s level =
-    let vs = s .vars in
-    let start = getD (vs .limits) level 0 in
-    elim (ltb level (decision-level vs)) [
+    elim (ltb level (decision-level (s .vars))) [
       | false ↦ s
       | true ↦
           record {
             ok = s .ok;
             store = s .store;
-            vars =
-                record {
-                  values = unset (vs .values) (drop start (vs .trail));
-                  levels = vs .levels;
-                  reasons = vs .reasons;
-                  trail = take start (vs .trail);
-                  limits = take level (vs .limits);
-                };
-            phases = save (s .phases) (saved-part phase vs level);
-            qhead = start;
+            vars = vars-until (s .vars) level;
+            phases = save (s .phases) (saved-part phase (s .vars) level);
+            qhead = level-end (s .vars) level;
           }
     ]

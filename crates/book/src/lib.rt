@@ -1,0 +1,1 @@
+// The claims about the plain book stand in specs/.

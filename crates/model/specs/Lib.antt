@@ -24,3 +24,4 @@ pub mod Run
 pub mod Book
 pub mod Exec
 pub mod Table
+pub mod WrongTurns

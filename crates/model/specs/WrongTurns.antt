@@ -3,7 +3,7 @@ use Prim.Native.Nat.{ℕ}
 use mathlib.Core.Path.{_≡_, refl}
 use mathlib.Core.List.{List, [], _∷_}
 use Rattle.model.specs.Table.{script}
-use Rattle.model.specs.Exec.{out, out-of}
+use Rattle.model.specs.Exec.{refuses, gives, out, out-of}
 
 pub record WrongTurns : Type 0 where
   -- assumptions added as unit clauses: after the assumption 0, the assumption 1 would fail
@@ -17,8 +17,8 @@ pub record WrongTurns : Type 0 where
   -- `ok` false on a FALSE whose final clause is not empty: the next solve, without the assumption, would say FALSE
   pub still-ok : out (script 1 (1 ∷ 1 ∷ 1 ∷ 2 ∷ 1 ∷ 0 ∷ 1 ∷ 2 ∷ 0 ∷ 1 ∷ [])) ≡ 1 ∷ 1 ∷ 0 ∷ 1 ∷ 1 ∷ 0 ∷ 0 ∷ 1 ∷ 1 ∷ []
   -- out sized for V literals: P9 needs V + 1
-  pub sized : out-of (script 1 (2 ∷ 2 ∷ 0 ∷ 1 ∷ 1 ∷ [])) 224 1 4 ≡ 12 ∷ 5 ∷ []
-  pub fits : out-of (script 1 (2 ∷ 2 ∷ 0 ∷ 1 ∷ 1 ∷ [])) 224 1 5 ≡ 1 ∷ 0 ∷ 2 ∷ 0 ∷ 1 ∷ []
+  pub sized : out-of (script 1 (2 ∷ 2 ∷ 0 ∷ 1 ∷ 1 ∷ [])) 224 1 4 ≡ refuses 12 5
+  pub fits : out-of (script 1 (2 ∷ 2 ∷ 0 ∷ 1 ∷ 1 ∷ [])) 224 1 5 ≡ gives (1 ∷ 0 ∷ 2 ∷ 0 ∷ 1 ∷ [])
 
 pub wrong-turns : WrongTurns
 unfolding out out-of

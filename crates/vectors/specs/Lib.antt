@@ -1,0 +1,9 @@
+pub mod Intake
+pub mod Search
+pub mod Minimise
+pub mod Phases
+pub mod Finals
+pub mod Restarts
+pub mod Mixed
+pub mod Storage
+pub mod Refusals

@@ -1,0 +1,1 @@
+// Scripts with their out cells, run by the definition.

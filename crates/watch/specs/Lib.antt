@@ -1,0 +1,14 @@
+pub mod Stride
+pub mod Count
+pub mod Follow
+pub mod View
+pub mod Cells
+pub mod Laws
+pub mod Links
+pub mod Stores
+pub mod Meaning
+pub mod Uses
+pub mod Walk
+pub mod Cursors
+pub mod Steps
+pub mod Sweep

@@ -25,3 +25,4 @@ pub mod Book
 pub mod Exec
 pub mod Table
 pub mod WrongTurns
+pub mod Steps

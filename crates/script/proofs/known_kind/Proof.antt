@@ -1,0 +1,12 @@
+use borrow.Author.Tests.{eq-eqb, ne-eqb}
+use Rattle.script.proofs.known_kind.Statement.{statement}
+use Rattle.script.proofs.known_kind.Tie as tie
+
+returns : tie.Need-returns
+returns c = rw (eq-eqb _ _ (c .if1 .taken))
+
+returns-2 : tie.Need-returns-2
+returns-2 c = rw (ne-eqb _ _ (c .if1 .left))
+
+pub known-kind-spec : {M : Type 1} → statement M
+known-kind-spec = tie.close (tie.spec returns returns-2)

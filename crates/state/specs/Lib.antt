@@ -1,0 +1,11 @@
+pub mod AssignmentLaws
+pub mod ClauseLaws
+pub mod Fresh
+pub mod Laws
+pub mod Lending
+pub mod MarksLaws
+pub mod StartLaws
+pub mod Still
+pub mod View
+pub mod WatchLaws
+pub mod WatchSteps

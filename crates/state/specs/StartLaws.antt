@@ -1,0 +1,130 @@
+-- The start: block by block, whatever stood in the slice.
+use Prim.Native.Nat.{ℕ, _+_, _-_, _*_, _≤_, _<_}
+use native.Mathlib.Omega.{arith}
+use mathlib.Core.Bool.{true}
+use mathlib.Core.Path.{_≡_, sym, ap, subst, _∙_}
+use mathlib.Core.List.{List, [], _∷_, _++_}
+use lib.ListN.{length, getD, set, take, drop, replicate, length-replicate, getD-replicate}
+use lib.Seq.{ext-getD}
+use Rattle.region.specs.Split.{split, base}
+use Rattle.region.specs.Laws.{split-length}
+use Rattle.model.specs.State.{initial-state}
+use Rattle.trail.specs.View as tv
+use Rattle.trail.specs.View.{initial-assignment}
+use Rattle.trail.specs.declared.TrailHead.{TrailHead}
+use Rattle.scratch.specs.View as xv
+use Rattle.watch.specs.View as wv
+use Rattle.watch.specs.View.{Watches, Under, emptied}
+use Rattle.watch.specs.Meaning.{as-watches, as-emptied}
+use Rattle.watch.specs.Uses.{emptied-under}
+use Rattle.store.specs.View as sv
+use Rattle.store.specs.View.{Clauses, no-clauses}
+use Rattle.store.specs.declared.StoreHead.{StoreHead}
+use Rattle.litset.specs.View as lv
+use Rattle.litset.specs.declared.Head.{Head}
+use Rattle.state.specs.declared.Sizes.{Sizes}
+use Rattle.state.specs.declared.Header.{Header}
+use Rattle.state.specs.View.{Whole, shape, trail-size, scratch-size, lists-size, store-size, final-size, pack, whole, state-of, Room, Blocks, Rep}
+use Rattle.state.specs.Laws.{lent, back}
+use Rattle.state.specs.Lending.{same-size}
+use Rattle.state.specs.Fresh.{Fresh}
+
+-- block k was filled, and is as P says
+pub record Filled (d : Sizes) (w w′ : List ℕ) (k : ℕ) (P : List ℕ → Type 0) : Type 0 where
+  pub size : length w′ ≡ length w
+  pub block : List ℕ
+  pub parts : split (shape d) w′ ≡ set (split (shape d) w) k block
+  pub holds : P block
+
+pub record Unmarked (d : Sizes) (b : List ℕ) : Type 0 where
+  pub room : xv.Room (scratch-size d) (length b)
+  pub marks : xv.view (scratch-size d) b .marks ≡ replicate (d .vars) 0
+
+pub record Unlisted (d : Sizes) (b : List ℕ) : Type 0 where
+  pub rep : wv.Rep (lists-size d) b
+  pub lists : wv.view (lists-size d) b .lists ≡ replicate (2 * d .vars) []
+  pub watches : as-watches (wv.view (lists-size d) b) ≡ replicate (2 * d .vars) []
+  pub under : Under 0 (wv.view (lists-size d) b .lists)
+
+-- what `start` leaves
+pub record Started (d : Sizes) (r : Header) (w : List ℕ) : Type 0 where
+  pub rep : Rep d r w
+  pub state : state-of r (whole d r w) ≡ initial-state (d .vars)
+  pub marks : whole d r w .scratch .marks ≡ replicate (d .vars) 0
+  pub lists : whole d r w .watches .lists ≡ replicate (2 * d .vars) []
+  pub pushed : whole d r w .clauses .pushed ≡ []
+  pub final : whole d r w .final ≡ []
+  pub fresh : Fresh (whole d r w)
+
+-- block k, lent from a to e
+module _ (d : Sizes) (w : List ℕ) (r : Room d (length w)) (k a e : ℕ) (g : k < 5) (ha : a ≡ base k (shape d)) (he : e ≡ base k (shape d) + getD (shape d) k 0)
+    (fits : base k (shape d) + getD (shape d) k 0 ≤ length w) where
+  pub part-size : length (take (e - a) (drop a w)) ≡ getD (shape d) k 0
+  part-size = ap length (lent d w k a e g ha he) ∙ split-length (shape d) w k g (r .fits)
+
+  pub filled : (P : List ℕ → Type 0) (ys : List ℕ) → length ys ≡ length (take (e - a) (drop a w)) → P ys → Filled d w (take a w ++ (ys ++ drop (e - a) (drop a w))) k P
+  filled P ys n p = record { size = same-size w ys a e n; block = ys; parts = back d w k a e g ha he ys fits r n; holds = p }
+
+pub unmarked-is : (d : Sizes) (b ys : List ℕ) → xv.Holds (scratch-size d) ys (xv.unmarked (d .vars) (xv.view (scratch-size d) b)) → Unmarked d ys
+unmarked-is d b ys k = record { room = k .room; marks = ap (λ (s : xv.Scratch). s .marks) (k .view) }
+
+pub unlisted-is : (d : Sizes) (b ys : List ℕ) → wv.Holds (lists-size d) ys (emptied (2 * d .vars) (wv.view (lists-size d) b)) → Unlisted d ys
+unfolding emptied
+unlisted-is d b ys k =
+    record {
+      rep = k .rep;
+      lists = ap (λ (s : Watches). s .lists) (k .view);
+      watches = ap as-watches (k .view) ∙ as-emptied (2 * d .vars) (wv.view (lists-size d) b);
+      under = rw (k .view) (emptied-under 0 (2 * d .vars) (wv.view (lists-size d) b));
+    }
+
+-- the blocks together
+module _ (d : Sizes) (t : TrailHead) (s : StoreHead) (f : Head) (ps : List (List ℕ)) where
+  abbrev pub first-head : Header
+  first-head = record { trail = t; store = s; finals = f; qhead = 0; ok = true }
+
+  module _ (trail : tv.Holds (trail-size d) t (getD ps 0 []) (initial-assignment (d .vars))) (scratch : Unmarked d (getD ps 1 [])) (watches : Unlisted d (getD ps 2 []))
+      (store : sv.Holds (store-size d) s (getD ps 3 []) no-clauses) (final : lv.Holds (final-size d) f (getD ps 4 []) []) where
+    all-blocks : Blocks d first-head ps
+    all-blocks = record { trail = trail .rep; scratch = scratch .room; watch = watches .rep; store = store .rep; final = final .rep }
+
+    first-state : state-of first-head (pack d first-head ps) ≡ initial-state (d .vars)
+    unfolding initial-state
+    first-state = rw (trail .view, store .view, watches .watches)
+
+    pub all-filled : (w : List ℕ) → Room d (length w) → split (shape d) w ≡ ps → Started d first-head w
+    unfolding whole
+    all-filled w room e =
+        let same : whole d first-head w ≡ pack d first-head ps = ap (pack d first-head) e in
+        let none : sv.view (store-size d) s (getD ps 3 []) ≡ no-clauses = store .view in
+        record {
+          rep = record { room = room; blocks = subst (Blocks d first-head) (sym e) all-blocks };
+          state = ap (state-of first-head) same ∙ first-state;
+          marks = ap (λ (x : Whole). x .scratch .marks) same ∙ scratch .marks;
+          lists = ap (λ (x : Whole). x .watches .lists) same ∙ watches .lists;
+          pushed = ap (λ (x : Whole). x .clauses .pushed) same ∙ ap (λ (x : Clauses). x .pushed) none;
+          final = ap (λ (x : Whole). x .final) same ∙ final .view;
+          fresh = subst Fresh (sym same) (record { under = rw none (watches .under) });
+        }
+
+pub started : (d : Sizes) (w w₁ w₂ w₃ w₄ w₅ : List ℕ) (t : TrailHead) (s : StoreHead) (f : Head) → Room d (length w)
+    → Filled d w w₁ 0 (λ b. tv.Holds (trail-size d) t b (initial-assignment (d .vars)))
+    → Filled d w₁ w₂ 1 (Unmarked d)
+    → Filled d w₂ w₃ 2 (Unlisted d)
+    → Filled d w₃ w₄ 3 (λ b. sv.Holds (store-size d) s b no-clauses)
+    → Filled d w₄ w₅ 4 (λ b. lv.Holds (final-size d) f b [])
+    → Started d (record { trail = t; store = s; finals = f; qhead = 0; ok = true }) w₅
+started d w w₁ w₂ w₃ w₄ w₅ t s f room a b c e g =
+    let size : length w₅ ≡ length w = g .size ∙ e .size ∙ c .size ∙ b .size ∙ a .size in
+    let parts : split (shape d) w₅ ≡ a .block ∷ b .block ∷ c .block ∷ e .block ∷ g .block ∷ [] =
+    g .parts
+    ∙ ap (λ (ps : List (List ℕ)). set ps 4 (g .block)) (e .parts ∙ ap (λ (ps : List (List ℕ)). set ps 3 (e .block)) (c .parts ∙ ap (λ (ps : List (List ℕ)). set ps 2 (c .block)) (b .parts ∙ ap (λ (ps : List (List ℕ)). set ps 1 (b .block)) (a .parts))))
+    in
+    all-filled d t s f (a .block ∷ b .block ∷ c .block ∷ e .block ∷ g .block ∷ []) (a .holds) (b .holds) (c .holds) (e .holds) (g .holds) w₅ (rw size room) parts
+
+-- ---- every cell 0
+
+pub all-zero : (s : List ℕ) (n : ℕ) → length s ≡ n → ((k : ℕ) → k < n → getD s k 0 ≡ 0) → s ≡ replicate n 0
+all-zero s n e z =
+    ext-getD 0 s (replicate n 0) (e ∙ sym (length-replicate n 0))
+    (λ k h. let b : k < n = omega arith in z k b ∙ sym (getD-replicate n k 0 0 b))

@@ -1,0 +1,66 @@
+-- The watch lists' block of work: what its functions ask and ensure, in terms of the whole.
+use Prim.Native.Nat.{ℕ, suc, _+_, _-_}
+use native.Mathlib.Omega.{arith}
+use mathlib.Core.Path.{_≡_, sym, ap, subst}
+use mathlib.Core.List.{List, [], _++_}
+use lib.ListN.{length, getD, set, take, drop}
+use Rattle.region.specs.Split.{split, base}
+use Rattle.watch.specs.View as wv
+use Rattle.watch.specs.View.{Watches, list-of, moved}
+use Rattle.watch.specs.Walk as ww
+use Rattle.watch.specs.Walk.{Stands}
+use Rattle.watch.specs.declared.Lists.{Lists}
+use Rattle.watch.specs.declared.Cursor.{Cursor}
+use Rattle.state.specs.declared.Sizes.{Sizes}
+use Rattle.state.specs.declared.Header.{Header}
+use Rattle.state.specs.View.{Whole, shape, lists-size, whole, with-watches, Rep, Holds}
+use Rattle.state.specs.Laws.{lent, back, watch-back}
+use Rattle.state.specs.Lending.{same-size}
+
+-- the node at the cursor c has gone to the list of m with the blocker b, and the cursor r is at the next
+pub record Gone (d : Sizes) (h : Header) (w′ : List ℕ) (l m b : ℕ) (x : Whole) (c r : Cursor) : Type 0 where
+  pub holds : Holds d h w′ (with-watches x (moved l (length (list-of (x .watches) l) - c .left) m b (x .watches)))
+  pub stands : Stands r (list-of (whole d h w′ .watches) l)
+  pub left : suc (r .left) ≡ c .left
+
+module _ (d : Sizes) (h : Header) (w : List ℕ) (r : Rep d h w) where
+  -- the block s, lent as b
+  module _ (s : Lists) (b : List ℕ) (es : s ≡ lists-size d) (eb : b ≡ getD (split (shape d) w) 2 []) where
+    pub lists-lent : wv.Rep s b
+    lists-lent = rw (es, eb) (r .blocks .watch)
+
+    pub lists-view : wv.view s b ≡ whole d h w .watches
+    unfolding whole
+    lists-view = rw (es, eb)
+
+    -- what the functions ask, of the whole's watch lists
+    pub ask-lists : (P : Lists → Watches → Type 0) → P (lists-size d) (whole d h w .watches) → wv.Rep s b × P s (wv.view s b)
+    ask-lists P p = (lists-lent, rw (lists-view, es) p)
+
+  -- a function that leaves ys in the part from a to e
+  module _ (s : Lists) (a e : ℕ) (es : s ≡ lists-size d) (ha : a ≡ base 2 (shape d)) (he : e ≡ base 2 (shape d) + getD (shape d) 2 0) where
+    pub lists-part : take (e - a) (drop a w) ≡ getD (split (shape d) w) 2 []
+    lists-part = lent d w 2 a e (omega arith) ha he
+
+    module _ (ys : List ℕ) (n : length ys ≡ length (take (e - a) (drop a w))) where
+      kept : split (shape d) (take a w ++ (ys ++ drop (e - a) (drop a w))) ≡ set (split (shape d) w) 2 ys
+      kept = back d w 2 a e (omega arith) ha he ys (omega (arith, r .room .fits)) (r .room) n
+
+      pub lists-returns : (f : Watches → Watches) → wv.Holds s ys (f (wv.view s (take (e - a) (drop a w))))
+          → Holds d h (take a w ++ (ys ++ drop (e - a) (drop a w))) (with-watches (whole d h w) (f (whole d h w .watches)))
+      lists-returns f k =
+          let k′ : wv.Holds (lists-size d) ys (f (whole d h w .watches)) = rw (lists-view s (take (e - a) (drop a w)) es lists-part, es) at k in
+          watch-back d h w _ ys r (same-size w ys a e n) kept k′
+
+      pub leave-returns : (l m b : ℕ) (c x : Cursor) → ww.Gone s ys l m b (wv.view s (take (e - a) (drop a w))) c x
+          → Gone d h (take a w ++ (ys ++ drop (e - a) (drop a w))) l m b (whole d h w) c x
+      unfolding whole
+      leave-returns l m b c x k =
+          let same : wv.view s ys ≡ whole d h (take a w ++ (ys ++ drop (e - a) (drop a w))) .watches =
+          rw es (sym (ap (λ (ps : List (List ℕ)). wv.view (lists-size d) (getD ps 2 [])) kept))
+          in
+          record {
+            holds = lists-returns (λ v. moved l (length (list-of v l) - c .left) m b v) (k .holds);
+            stands = subst (λ (v : Watches). Stands x (list-of v l)) same (k .stands);
+            left = k .left;
+          }

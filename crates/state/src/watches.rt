@@ -1,0 +1,182 @@
+// The watch lists.
+ghost use mathlib.Core.Path.{_≡_};
+ghost use mathlib.Core.List.{[]};
+ghost use Prim.Native.Nat.{suc, _+_, _*_, _≤_, _<_};
+ghost use lib.ListN.{length, getD};
+ghost use Rattle.region.specs.Split.{split, base};
+ghost use Rattle.watch.specs.View.{list-of, spot, Next, Free, appended, moved, blocked};
+ghost use Rattle.watch.specs.Walk.{Stands};
+ghost use Rattle.state.specs.View.{Room, Rep, Holds, whole, shape, lists-size, with-watches};
+ghost use Rattle.state.specs.Laws.{with-store};
+ghost use Rattle.state.specs.ClauseLaws.{counted};
+ghost use Rattle.state.specs.WatchLaws.{Gone};
+ghost use Rattle.state.specs.Fresh.{Attachable, attached-in, Storable, Stored};
+use super::Header;
+use super::Sizes;
+use super::clauses;
+use clause::Lit;
+use watch::Cursor;
+use watch::Lists;
+use watch::Prev;
+
+fn lists(d: Sizes) -> Lists
+    requires { ⌜ (d .vars ≤ 4096) × (d .room ≤ 65535) ⌝ }
+    ensures { λ r. ⌜ r ≡ lists-size d ⌝ }
+{
+    Lists {
+        slots: 2 * d.vars,
+        nodes: 2 * d.room,
+    }
+}
+
+// Where the block begins and ends.
+fn begin(d: Sizes) -> usize
+    requires { ⌜ d .vars ≤ 4096 ⌝ }
+    ensures { λ r. ⌜ r ≡ base 2 (shape d) ⌝ }
+{
+    13 * d.vars
+}
+
+fn end(d: Sizes) -> usize
+    requires { ⌜ (d .vars ≤ 4096) × (d .room ≤ 65535) ⌝ }
+    ensures { λ r. ⌜ r ≡ base 2 (shape d) + getD (shape d) 2 0 ⌝ }
+{
+    19 * d.vars + 4 * d.room
+}
+
+fn block(d: Sizes, work: &[u32]) -> &[u32]
+    requires { ⌜ Room d (length (now work)) ⌝ }
+    ensures { λ r. ⌜ now r ≡ getD (split (shape d) (now (work .entry))) 2 [] ⌝ }
+{
+    let a = begin(d);
+    let e = end(d);
+    &work[a..e]
+}
+
+// How many nodes the list of l has.
+pub fn count(d: Sizes, h: Header, work: &[u32], l: Lit) -> usize
+    requires { ⌜ Rep d h (now work) ⌝ }
+    requires { ⌜ l .0 < 2 * d .vars ⌝ }
+    ensures { λ r. ⌜ r ≡ length (list-of (whole d h (now (work .entry)) .watches) (l .0)) ⌝ }
+{
+    watch::count(lists(d), block(d, work), l)
+}
+
+// The first node of a list that has one.
+pub fn first(d: Sizes, h: Header, work: &[u32], l: Lit) -> usize
+    requires { ⌜ Rep d h (now work) ⌝ }
+    requires { ⌜ l .0 < 2 * d .vars ⌝ }
+    requires { ⌜ 0 < length (list-of (whole d h (now work) .watches) (l .0)) ⌝ }
+    ensures { λ r. ⌜ (r ≡ getD (list-of (whole d h (now (work .entry)) .watches) (l .0)) 0 0) × (r < 2 * d .room) ⌝ }
+{
+    watch::first(lists(d), block(d, work), l)
+}
+
+// The node after x, where x is in a list and not its last.
+pub fn next(d: Sizes, h: Header, work: &[u32], x: usize) -> usize
+    requires { ⌜ Rep d h (now work) ⌝ }
+    requires { ⌜ x < 2 * d .room ⌝ }
+    ensures { λ r. ⌜ Next (whole d h (now (work .entry)) .watches) x r ⌝ }
+{
+    watch::next(lists(d), block(d, work), x)
+}
+
+pub fn blocker(d: Sizes, h: Header, work: &[u32], x: usize) -> Lit
+    requires { ⌜ Rep d h (now work) ⌝ }
+    requires { ⌜ x < 2 * d .room ⌝ }
+    ensures { λ r. ⌜ r .0 ≡ getD (whole d h (now (work .entry)) .watches .blockers) x 0 ⌝ }
+{
+    watch::blocker(lists(d), block(d, work), x)
+}
+
+pub fn set_blocker(d: Sizes, h: Header, work: &mut [u32], x: usize, b: Lit)
+    requires { ⌜ Rep d h (now work) ⌝ }
+    requires { ⌜ x < 2 * d .room ⌝ }
+    ensures { λ _. ⌜ Holds d h (now (work .exit)) (with-watches (whole d h (now (work .entry))) (blocked x (b .0) (whole d h (now (work .entry)) .watches))) ⌝ }
+{
+    let a = begin(d);
+    let e = end(d);
+    watch::set_blocker(lists(d), &mut work[a..e], x, b);
+}
+
+// A node that is in no list goes to the end of the list of l, with the blocker b.
+pub fn append(d: Sizes, h: Header, work: &mut [u32], l: Lit, x: usize, b: Lit)
+    requires { ⌜ Rep d h (now work) ⌝ }
+    requires { ⌜ (l .0 < 2 * d .vars) × (x < 2 * d .room) ⌝ }
+    requires { ⌜ Free x (whole d h (now work) .watches .lists) ⌝ }
+    ensures { λ _. ⌜ Holds d h (now (work .exit)) (with-watches (whole d h (now (work .entry))) (appended (l .0) x (b .0) (whole d h (now (work .entry)) .watches))) ⌝ }
+{
+    let a = begin(d);
+    let e = end(d);
+    watch::append(lists(d), &mut work[a..e], l, x, b);
+}
+
+// The node x at a place of the list of l goes to the end of the list of m, with the blocker b.
+pub fn move_to(d: Sizes, h: Header, work: &mut [u32], l: Lit, prev: Prev, x: usize, m: Lit, b: Lit)
+    requires { ⌜ Rep d h (now work) ⌝ }
+    requires { ⌜ (l .0 < 2 * d .vars) × (m .0 < 2 * d .vars) × (l .0 ≡ m .0 → ⊥) ⌝ }
+    requires { ⌜ spot prev (list-of (whole d h (now work) .watches) (l .0)) < length (list-of (whole d h (now work) .watches) (l .0)) ⌝ }
+    requires { ⌜ x ≡ getD (list-of (whole d h (now work) .watches) (l .0)) (spot prev (list-of (whole d h (now work) .watches) (l .0))) 0 ⌝ }
+    ensures { λ _. ⌜ Holds d h (now (work .exit)) (with-watches (whole d h (now (work .entry))) (moved (l .0) (spot prev (list-of (whole d h (now (work .entry)) .watches) (l .0))) (m .0) (b .0) (whole d h (now (work .entry)) .watches))) ⌝ }
+{
+    let a = begin(d);
+    let e = end(d);
+    watch::move_to(lists(d), &mut work[a..e], l, prev, x, m, b);
+}
+
+// The cursor at the start of the list of l.
+pub fn walk(d: Sizes, h: Header, work: &[u32], l: Lit) -> Cursor
+    requires { ⌜ Rep d h (now work) ⌝ }
+    requires { ⌜ l .0 < 2 * d .vars ⌝ }
+    ensures { λ r. ⌜ Stands r (list-of (whole d h (now (work .entry)) .watches) (l .0)) × (r .left ≡ length (list-of (whole d h (now (work .entry)) .watches) (l .0))) ⌝ }
+{
+    watch::walk(lists(d), block(d, work), l)
+}
+
+// The node at the cursor stays: on to the next.
+pub fn stay(d: Sizes, h: Header, work: &[u32], l: Lit, c: Cursor) -> Cursor
+    requires { ⌜ Rep d h (now work) ⌝ }
+    requires { ⌜ l .0 < 2 * d .vars ⌝ }
+    requires { ⌜ Stands c (list-of (whole d h (now work) .watches) (l .0)) × (0 < c .left) ⌝ }
+    ensures { λ r. ⌜ Stands r (list-of (whole d h (now (work .entry)) .watches) (l .0)) × (suc (r .left) ≡ c .left) ⌝ }
+{
+    watch::stay(lists(d), block(d, work), l, c)
+}
+
+// The node at the cursor goes to the end of the list of m, with the blocker b: on to the next.
+pub fn leave(d: Sizes, h: Header, work: &mut [u32], l: Lit, c: Cursor, m: Lit, b: Lit) -> Cursor
+    requires { ⌜ Rep d h (now work) ⌝ }
+    requires { ⌜ (l .0 < 2 * d .vars) × (m .0 < 2 * d .vars) × (l .0 ≡ m .0 → ⊥) ⌝ }
+    requires { ⌜ Stands c (list-of (whole d h (now work) .watches) (l .0)) × (0 < c .left) ⌝ }
+    ensures { λ r. ⌜ Gone d h (now (work .exit)) (l .0) (m .0) (b .0) (whole d h (now (work .entry))) c r ⌝ }
+{
+    let a = begin(d);
+    let e = end(d);
+    watch::leave(lists(d), &mut work[a..e], l, c, m, b)
+}
+
+// The first two literals of the last clause c are watched, each with the other as blocker.
+pub fn attach(d: Sizes, h: Header, work: &mut [u32], c: usize)
+    requires { ⌜ Rep d h (now work) ⌝ }
+    requires { ⌜ Attachable d (whole d h (now work)) c ⌝ }
+    ensures { λ _. ⌜ Holds d h (now (work .exit)) (attached-in c (whole d h (now (work .entry)))) ⌝ }
+{
+    let p = clauses::lit_at(d, h, work, c, 0);
+    let q = clauses::lit_at(d, h, work, c, 1);
+    let a = begin(d);
+    let e = end(d);
+    watch::attach(lists(d), &mut work[a..e], c, p, q);
+}
+
+// The literals pushed become a clause, and it is attached.
+pub fn store_pushed(d: Sizes, h: Header, work: &mut [u32]) -> Header
+    requires { ⌜ Rep d h (now work) ⌝ }
+    requires { ⌜ Storable d (whole d h (now work)) ⌝ }
+    ensures { λ r. ⌜ Stored d h r (now (work .entry)) (now (work .exit)) ⌝ }
+    ensures { λ r. ⌜ r ≡ with-store h (counted (h .store .clauses + 1) (h .store .literals + h .store .pushed) 0) ⌝ }
+{
+    let c = clauses::clause_count(d, h, work);
+    let r = clauses::close_clause(d, h, work);
+    attach(d, r, work, c);
+    r
+}

@@ -25,7 +25,7 @@ fn block(d: Sizes, work: &[u32]) -> &[u32]
     &work[0..e]
 }
 
-// A literal's value: 0 true, 1 false, 2 and 3 unset.
+// A literal's value: 0 true, 1 false, 2 unset.
 pub fn value(d: Sizes, h: Header, work: &[u32], p: Lit) -> u32
     requires { ⌜ Rep d h (now work) ⌝ }
     requires { ⌜ var (p .0) < d .vars ⌝ }

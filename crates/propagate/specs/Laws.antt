@@ -1,0 +1,196 @@
+-- What the small functions of propagation do to the whole.
+use Prim.Native.Nat.{ℕ, _+_, _-_, _*_, _/_, _≤_, _<_}
+use native.Mathlib.Omega.{arith}
+use native.Mathlib.Numerals.{add-one}
+use mathlib.Core.Path.{_≡_, refl, sym, ap, ap₂, subst, subst₂, _∙_}
+use mathlib.Core.Logic.{_≢_}
+use mathlib.Core.Bool.{true, false}
+use mathlib.Core.List.{List, []}
+use mathlib.Core.Option.{Option, none, some}
+use lib.ListN.{length, getD, set, drop, length-set, length-drop, drop-of-length-le}
+use lib.Seq.{drop-cons, set-getD, set-set, getD-set-same}
+use borrow.Author.Tests.{eq-eqb, ne-eqb}
+use Rattle.model.specs.Lit.{neg, value-lit, is-true, is-false}
+use Rattle.model.specs.Propagate.{false-second, new-watch}
+use Rattle.trail.specs.View.{enqueued}
+use Rattle.store.specs.View.{Clauses, clause-of, lit-set}
+use Rattle.watch.specs.View.{list-of, blocked}
+use Rattle.watch.specs.Walk.{Stands}
+use Rattle.watch.specs.declared.Cursor.{Cursor}
+use Rattle.state.specs.declared.Sizes.{Sizes}
+use Rattle.state.specs.declared.Header.{Header}
+use Rattle.state.specs.View.{Whole, whole, Rep, Holds, with-assignment, with-watches, with-clauses}
+use Rattle.state.specs.ClauseLaws.{clause-inside}
+use Rattle.state.specs.WatchSteps.{cursor-low}
+use Rattle.watching.specs.Look.{Found, nowhere, at-place, found}
+use Rattle.state.specs.WatchLaws.{Gone}
+use Rattle.state.specs.Laws.{with-trail}
+use Rattle.state.specs.AssignmentLaws.{counts}
+use Rattle.propagate.specs.declared.Step.{Step}
+use Rattle.propagate.specs.View.{put-clause, place-of, Passed, at-cursor, exchanged, Settles, sets, Looks, passes, moves, settles}
+
+-- ---- literals of a clause set
+
+module _ (cs : List (List ℕ)) (c i : ℕ) (h : i < length (getD cs c [])) (l : List ℕ) where
+  pub put-same : getD (set cs c l) c [] ≡ l
+  put-same = getD-set-same cs c l [] (clause-inside cs c i h)
+
+module _ (x : Whole) {y : Whole} (c i a : ℕ) (h : i < length (clause-of (x .clauses) c)) (e : y ≡ with-clauses x (lit-set (x .clauses) c i a)) where
+  pub set-length : length (clause-of (y .clauses) c) ≡ length (clause-of (x .clauses) c)
+  set-length =
+      ap (λ (z : Whole). length (clause-of (z .clauses) c)) e
+      ∙ ap length (put-same (x .clauses .clauses) c i h (set (clause-of (x .clauses) c) i a))
+      ∙ length-set (clause-of (x .clauses) c) i a
+
+  -- one literal, and another
+  pub set-twice : (j b : ℕ) → with-clauses y (lit-set (y .clauses) c j b) ≡ with-clauses x (put-clause (x .clauses) c (set (set (clause-of (x .clauses) c) i a) j b))
+  set-twice j b =
+      ap (λ (z : Whole). with-clauses z (lit-set (z .clauses) c j b)) e
+      ∙ ap (λ (l : List (List ℕ)). with-clauses x (record { clauses = l; pushed = x .clauses .pushed }))
+      (ap (λ (l : List ℕ). set (set (x .clauses .clauses) c (set (clause-of (x .clauses) c) i a)) c (set l j b)) (put-same (x .clauses .clauses) c i h (set (clause-of (x .clauses) c) i a))
+      ∙ set-set (x .clauses .clauses) c (set (clause-of (x .clauses) c) i a) (set (set (clause-of (x .clauses) c) i a) j b))
+
+-- ---- the false literal second
+
+module _ (x : Whole) (c f : ℕ) where
+  pub second-kept : getD (clause-of (x .clauses) c) 0 0 ≢ f → x ≡ with-clauses x (put-clause (x .clauses) c (false-second f (clause-of (x .clauses) c)))
+  unfolding false-second
+  second-kept n =
+      rw (ne-eqb (getD (clause-of (x .clauses) c) 0 0) f n, false-second)
+      (ap (λ (l : List (List ℕ)). with-clauses x (record { clauses = l; pushed = x .clauses .pushed })) (sym (set-getD (x .clauses .clauses) c [])))
+
+pub second-moved : (f : ℕ) (l : List ℕ) → getD l 0 0 ≡ f → false-second f l ≡ set (set l 0 (getD l 1 0)) 1 f
+unfolding false-second
+second-moved f l e = rw (eq-eqb (getD l 0 0) f e, false-second)
+
+-- ---- the search for a new watch
+
+module _ (values l : List ℕ) (k : ℕ) where
+  pub search-here : k < length l → is-false values (getD l k 0) ≡ false → new-watch values k (drop k l) ≡ some k
+  unfolding new-watch
+  search-here h e = rw (drop-cons l k 0 h, e, new-watch)
+
+  pub search-next : k < length l → is-false values (getD l k 0) ≡ true → new-watch values k (drop k l) ≡ new-watch values (k + 1) (drop (k + 1) l)
+  unfolding new-watch
+  search-next h e = rw (add-one, drop-cons l k 0 h, e, new-watch)
+
+  pub search-end : length l ≤ k → new-watch values k (drop k l) ≡ none
+  unfolding new-watch
+  search-end h = rw (drop-of-length-le l h)
+
+place-in : (values l : List ℕ) (k : ℕ) (o : Option ℕ) → Found values k l o → place-of (k + length l) o < k + length l → o ≡ some (place-of (k + length l) o)
+place-in values l k o (nowhere h) g = absurd (omega arith)
+place-in values l k o (at-place i j e h n) g = refl
+
+place-out : (values l : List ℕ) (k : ℕ) (o : Option ℕ) → Found values k l o → k + length l ≤ place-of (k + length l) o → o ≡ none
+place-out values l k o (nowhere h) g = refl
+place-out values l k o (at-place i j e h n) g = absurd (omega arith)
+
+-- the place is of one of the literals, or it is the end
+module _ (values l : List ℕ) (two : 2 ≤ length l) where
+  size : 2 + length (drop 2 l) ≡ length l
+  size = omega (arith, length-drop 2 l)
+
+  pub place-found : place-of (length l) (new-watch values 2 (drop 2 l)) < length l → new-watch values 2 (drop 2 l) ≡ some (place-of (length l) (new-watch values 2 (drop 2 l)))
+  place-found g =
+      let o = new-watch values 2 (drop 2 l) in
+      subst (λ n. place-of n o < n → o ≡ some (place-of n o)) size (place-in values (drop 2 l) 2 o (found values 2 (drop 2 l))) g
+
+  pub place-none : length l ≤ place-of (length l) (new-watch values 2 (drop 2 l)) → new-watch values 2 (drop 2 l) ≡ none
+  place-none g =
+      let o = new-watch values 2 (drop 2 l) in
+      subst (λ n. n ≤ place-of n o → o ≡ none) size (place-out values (drop 2 l) 2 o (found values 2 (drop 2 l))) g
+
+-- a place that is found is 2 or more
+pub place-two : (values l : List ℕ) (k : ℕ) → new-watch values 2 (drop 2 l) ≡ some k → 2 ≤ k
+place-two values l k e = go (new-watch values 2 (drop 2 l)) (found values 2 (drop 2 l)) e
+  where
+    go : (o : Option ℕ) → Found values 2 (drop 2 l) o → o ≡ some k → 2 ≤ k
+    go o (nowhere h) q = absurd (let z : _≡_ {A = ℕ} 0 1 = cc in omega arith)
+    go o (at-place i j g h n) q = let z : i ≡ k = cc in omega arith
+
+pub place-inside : (values l : List ℕ) (k : ℕ) → new-watch values 2 (drop 2 l) ≡ some k → k < length l
+place-inside values l k e = go (new-watch values 2 (drop 2 l)) (found values 2 (drop 2 l)) e
+  where
+    go : (o : Option ℕ) → Found values 2 (drop 2 l) o → o ≡ some k → k < length l
+    go o (nowhere h) q = absurd (let z : _≡_ {A = ℕ} 0 1 = cc in omega arith)
+    go o (at-place i j g h n) q = let z : i ≡ k = cc in omega (arith, length-drop 2 l)
+
+-- ---- a cursor
+
+module _ (d : Sizes) (h : Header) (w : List ℕ) (r : Rep d h w) (p : ℕ) (hp : p < 2 * d .vars) (c : Cursor) (a : Stands c (list-of (whole d h w .watches) p)) (more : 0 < c .left) where
+  pub cursor-room : c .cur < 2 * d .room
+  cursor-room = cursor-low d h w r p hp c a (c .left - 1) (omega arith)
+
+-- a new blocker leaves a cursor where it is
+pub blocked-stands : {d : Sizes} {h : Header} {w : List ℕ} (x : Whole) (y b p : ℕ) {c : Cursor} → Holds d h w (with-watches x (blocked y b (x .watches)))
+    → Stands c (list-of (x .watches) p) → Stands c (list-of (whole d h w .watches) p)
+unfolding blocked
+blocked-stands {d} {h} {w} x y b p {c} k a = subst (λ (z : Whole). Stands c (list-of (z .watches) p)) (sym (k .whole)) a
+
+-- nor do clauses that change
+pub clause-stands : {d : Sizes} {h : Header} {w : List ℕ} (x : Whole) (s : Clauses) (p : ℕ) {c : Cursor} → Holds d h w (with-clauses x s)
+    → Stands c (list-of (x .watches) p) → Stands c (list-of (whole d h w .watches) p)
+clause-stands x s p {c} k a = subst (λ (z : Whole). Stands c (list-of (z .watches) p)) (sym (k .whole)) a
+
+-- ---- a watch that goes
+
+pub exchange : (x : Whole) {y z : Whole} (c : Cursor) (p k l f : ℕ) → 2 ≤ length (at-cursor x c) → l ≡ getD (at-cursor x c) k 0 → f ≡ neg p
+    → y ≡ with-clauses x (lit-set (x .clauses) (c .cur / 2) 1 l) → z ≡ with-clauses y (lit-set (y .clauses) (c .cur / 2) k f) → z ≡ exchanged x c p k
+exchange x c p k l f two el ef ey ez =
+    ez
+    ∙ set-twice x (c .cur / 2) 1 l (omega arith) ey k f
+    ∙ ap₂ (λ a b. with-clauses x (put-clause (x .clauses) (c .cur / 2) (set (set (at-cursor x c) 1 a) k b))) el ef
+
+pub gone-as : {d : Sizes} {h : Header} {w : List ℕ} {p m n b : ℕ} {x y : Whole} {c r : Cursor} → Gone d h w p m b x c r → m ≡ n → x ≡ y → Gone d h w p n b y c r
+gone-as {d} {h} {w} {p} {b = b} {c = c} {r = r} g e f = subst₂ (λ (n : ℕ) (y : Whole). Gone d h w p n b y c r) e f g
+
+-- ---- the first literal is false, or it is set
+
+pub sets-as : {d : Sizes} {h k : Header} {w w′ : List ℕ} {p q : ℕ} {x : Whole} {c r : Cursor} → is-false (x .assignment .vars .values) q ≡ false → Passed d h w p q x c r
+    → Holds d k w′ (with-assignment (whole d h w) (enqueued (whole d h w .assignment) q (c .cur / 2))) → k ≡ with-trail h (counts (h .trail .assigned + 1) (h .trail .levels))
+    → Settles d h w′ p q c x (record { head = k; cursor = r; clash = false })
+sets-as {p = p} {q = q} {c = c} {r = r} f u e ek =
+    sets f
+    (record { rep = e .rep; whole = e .whole ∙ ap (λ (z : Whole). with-assignment z (enqueued (z .assignment) q (c .cur / 2))) (u .holds .whole) })
+    (subst (λ (z : Whole). Stands r (list-of (z .watches) p)) (sym (e .whole)) (u .stands))
+    (u .left) ek refl
+
+-- ---- the cases of a clause that is looked at
+
+-- the place k that the search gave, of n literals
+module _ (values l : List ℕ) (two : 2 ≤ length l) (k n : ℕ) (ek : k ≡ place-of (length l) (new-watch values 2 (drop 2 l))) (en : n ≡ length l) where
+  pub is-found : k < n → new-watch values 2 (drop 2 l) ≡ some k
+  is-found g = place-found values l two (omega arith) ∙ ap some (sym ek)
+
+  pub not-found : n ≤ k → new-watch values 2 (drop 2 l) ≡ none
+  not-found g = place-none values l two (omega arith)
+
+-- the first literal q, with its value v
+module _ (values l : List ℕ) (q v : ℕ) (eq : q ≡ getD l 0 0) (ev : v ≡ value-lit values q) where
+  its-value : v ≡ value-lit values (getD l 0 0)
+  its-value = ev ∙ ap (value-lit values) eq
+
+  pub first-is-true : v ≡ 0 → is-true values (getD l 0 0) ≡ true
+  first-is-true e = eq-eqb (value-lit values (getD l 0 0)) 0 (sym its-value ∙ e)
+
+  pub first-not-true : (v ≡ 0 → ⊥) → is-true values (getD l 0 0) ≡ false
+  first-not-true n = ne-eqb (value-lit values (getD l 0 0)) 0 (λ e. n (its-value ∙ e))
+
+  pub first-not-false : (v ≡ 1 → ⊥) → is-false values (getD l 0 0) ≡ false
+  first-not-false n = ne-eqb (value-lit values (getD l 0 0)) 1 (λ e. n (its-value ∙ e))
+
+pub passes-as : {d : Sizes} {h : Header} {w : List ℕ} {p q : ℕ} {x : Whole} {c r : Cursor} → q ≡ getD (at-cursor x c) 0 0
+    → is-true (x .assignment .vars .values) (getD (at-cursor x c) 0 0) ≡ true → Passed d h w p q x c r → Looks d h w p c x (record { head = h; cursor = r; clash = false })
+passes-as {d} {h} {w} {p} {x = x} {c = c} {r = r} eq e k = passes e (subst (λ b. Passed d h w p b x c r) eq k) refl refl
+
+pub moves-as : {d : Sizes} {h : Header} {w : List ℕ} {p q : ℕ} (x : Whole) {c r : Cursor} (k : ℕ) → q ≡ getD (at-cursor x c) 0 0
+    → is-true (x .assignment .vars .values) (getD (at-cursor x c) 0 0) ≡ false → new-watch (x .assignment .vars .values) 2 (drop 2 (at-cursor x c)) ≡ some k
+    → Gone d h w p (neg (getD (at-cursor x c) k 0)) q (exchanged x c p k) c r → Looks d h w p c x (record { head = h; cursor = r; clash = false })
+moves-as {d} {h} {w} {p} x {c} {r} k eq n e g =
+    moves k n e (subst (λ b. Gone d h w p (neg (getD (at-cursor x c) k 0)) b (exchanged x c p k) c r) eq g) refl refl
+
+pub settles-as : {d : Sizes} {h : Header} {w : List ℕ} {p q : ℕ} {x : Whole} {c : Cursor} {r : Step} → q ≡ getD (at-cursor x c) 0 0
+    → is-true (x .assignment .vars .values) (getD (at-cursor x c) 0 0) ≡ false → new-watch (x .assignment .vars .values) 2 (drop 2 (at-cursor x c)) ≡ none
+    → Settles d h w p q c x r → Looks d h w p c x r
+settles-as {d} {h} {w} {p} {x = x} {c = c} {r = r} eq n e g = settles n e (subst (λ b. Settles d h w p b c x r) eq g)

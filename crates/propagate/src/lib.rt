@@ -1,0 +1,244 @@
+// Rule 2: propagation over the watch lists.
+ghost use mathlib.Core.Path.{_≡_};
+ghost use mathlib.Core.List.{[]};
+ghost use Prim.Native.Nat.{_+_, _*_, _/_, _≤_, _<_};
+ghost use lib.ListN.{length, getD, drop};
+ghost use Rattle.model.specs.Lit.{neg, value-lit};
+ghost use Rattle.model.specs.Propagate.{false-second, new-watch, visit, propagate};
+ghost use Rattle.lawbase.specs.Basics.{_∈_};
+ghost use Rattle.trail.specs.View.{LitsOf};
+ghost use Rattle.store.specs.View.{clause-of};
+ghost use Rattle.watch.specs.View.{list-of};
+ghost use Rattle.watch.specs.Walk.{Stands};
+ghost use Rattle.state.specs.View.{Rep, Holds, whole, with-clauses};
+ghost use Rattle.state.specs.WatchLaws.{Gone};
+ghost use Rattle.state.specs.Still.{Still, state-at};
+ghost use Rattle.watching.specs.Propagate.{turn};
+ghost use Rattle.propagate.specs.Visit.{list-at};
+ghost use Rattle.propagate.specs.View.{put-clause, place-of, Passed, at-cursor, exchanged, Movable, Lookable, Settles, Looks, Walks, Looked, Gives};
+use clause::Lit;
+use state::Config;
+use state::Header;
+use state::Sizes;
+use state::assignment;
+use state::clauses;
+use state::watches;
+use watch::Cursor;
+
+// The header, and whether a clause is false, with its index.
+pub struct Propagated {
+    pub head: Header,
+    pub conflict: bool,
+    pub clause: usize,
+}
+
+// After one watch: the header, the cursor at the next watch, and whether the clause is false.
+pub struct Step {
+    pub head: Header,
+    pub cursor: Cursor,
+    pub clash: bool,
+}
+
+// Clause c has its false literal f second.
+fn false_second(d: Sizes, h: Header, work: &mut [u32], c: usize, f: Lit)
+    requires { ⌜ Rep d h (now work) ⌝ }
+    requires { ⌜ 2 ≤ length (clause-of (whole d h (now work) .clauses) c) ⌝ }
+    ensures { λ _. ⌜ Holds d h (now (work .exit)) (with-clauses (whole d h (now (work .entry))) (put-clause (whole d h (now (work .entry)) .clauses) c (false-second (f .0) (clause-of (whole d h (now (work .entry)) .clauses) c)))) ⌝ }
+{
+    let a = clauses::lit_at(d, h, work, c, 0);
+    if a.0 != f.0 {
+        return;
+    }
+    let b = clauses::lit_at(d, h, work, c, 1);
+    clauses::set_lit(d, h, work, c, 0, b);
+    clauses::set_lit(d, h, work, c, 1, f);
+}
+
+// The place, from 2 on, of the clause's first literal that is not false; the clause's length where there is none.
+fn new_watch(d: Sizes, h: Header, work: &[u32], c: usize) -> usize
+    requires { ⌜ Rep d h (now work) ⌝ }
+    requires { ⌜ 2 ≤ length (clause-of (whole d h (now work) .clauses) c) ⌝ }
+    requires { ⌜ LitsOf (d .vars) (clause-of (whole d h (now work) .clauses) c) ⌝ }
+    ensures { λ r. ⌜ r ≡ place-of (length (clause-of (whole d h (now (work .entry)) .clauses) c)) (new-watch (whole d h (now (work .entry)) .assignment .vars .values) 2 (drop 2 (clause-of (whole d h (now (work .entry)) .clauses) c))) ⌝ }
+{
+    let part = clauses::clause(d, h, work, c);
+    let n = part.len();
+    let mut k = 2;
+    while k < n {
+        let l = Lit(part[k]);
+        if assignment::value(d, h, work, l) != 1 {
+            return k;
+        }
+        k += 1;
+    }
+    n
+}
+
+// The watch at the cursor stays, with the blocker b.
+fn pass(d: Sizes, h: Header, work: &mut [u32], p: Lit, c: Cursor, b: Lit) -> Cursor
+    requires { ⌜ Rep d h (now work) ⌝ }
+    requires { ⌜ p .0 < 2 * d .vars ⌝ }
+    requires { ⌜ Stands c (list-of (whole d h (now work) .watches) (p .0)) × (0 < c .left) ⌝ }
+    ensures { λ r. ⌜ Passed d h (now (work .exit)) (p .0) (b .0) (whole d h (now (work .entry))) c r ⌝ }
+{
+    let x = c.cur;
+    watches::set_blocker(d, h, work, x, b);
+    watches::stay(d, h, work, p, c)
+}
+
+// The watch at the cursor goes to the literal at k of its clause, which becomes the second; the false literal takes its place.
+fn go(d: Sizes, h: Header, work: &mut [u32], p: Lit, c: Cursor, k: usize, b: Lit) -> Cursor
+    requires { ⌜ Rep d h (now work) ⌝ }
+    requires { ⌜ p .0 < 2 * d .vars ⌝ }
+    requires { ⌜ Stands c (list-of (whole d h (now work) .watches) (p .0)) × (0 < c .left) ⌝ }
+    requires { ⌜ Movable (d .vars) (p .0) (at-cursor (whole d h (now work)) c) k ⌝ }
+    ensures { λ r. ⌜ Gone d h (now (work .exit)) (p .0) (neg (getD (at-cursor (whole d h (now (work .entry))) c) k 0)) (b .0) (exchanged (whole d h (now (work .entry))) c (p .0) k) c r ⌝ }
+{
+    let x = c.cur / 2;
+    let f = p.negate();
+    let l = clauses::lit_at(d, h, work, x, k);
+    let m = l.negate();
+    clauses::set_lit(d, h, work, x, 1, l);
+    clauses::set_lit(d, h, work, x, k, f);
+    watches::leave(d, h, work, p, c, m, b)
+}
+
+// No other literal can be watched: the clause's first literal q, whose value is v, is false, or it is set.
+fn settle(d: Sizes, h: Header, work: &mut [u32], p: Lit, c: Cursor, q: Lit, v: u32) -> Step
+    requires { ⌜ Rep d h (now work) ⌝ }
+    requires { ⌜ (p .0 < 2 * d .vars) × (q .0 < 2 * d .vars) ⌝ }
+    requires { ⌜ Stands c (list-of (whole d h (now work) .watches) (p .0)) × (0 < c .left) ⌝ }
+    requires { ⌜ v ≡ value-lit (whole d h (now work) .assignment .vars .values) (q .0) ⌝ }
+    requires { ⌜ ((v ≡ 1 → ⊥) → h .trail .assigned < d .vars) ⌝ }
+    ensures { λ r. ⌜ Settles d h (now (work .exit)) (p .0) (q .0) c (whole d h (now (work .entry))) r ⌝ }
+{
+    let r = pass(d, h, work, p, c, q);
+    if v == 1 {
+        let t = h.trail;
+        return Step {
+            head: assignment::with_qhead(h, t.assigned),
+            cursor: r,
+            clash: true,
+        };
+    }
+    let k = assignment::enqueue(d, h, work, q, (c.cur / 2) as u32);
+    Step {
+        head: k,
+        cursor: r,
+        clash: false,
+    }
+}
+
+// The watch at the cursor, whose blocker is not true; its clause has its false literal second.
+fn look_clause(d: Sizes, h: Header, work: &mut [u32], p: Lit, c: Cursor) -> Step
+    requires { ⌜ Rep d h (now work) ⌝ }
+    requires { ⌜ p .0 < 2 * d .vars ⌝ }
+    requires { ⌜ Stands c (list-of (whole d h (now work) .watches) (p .0)) × (0 < c .left) ⌝ }
+    requires { ⌜ Lookable (d .vars) (p .0) (h .trail .assigned) (whole d h (now work) .assignment .vars .values) (at-cursor (whole d h (now work)) c) ⌝ }
+    ensures { λ r. ⌜ Looks d h (now (work .exit)) (p .0) c (whole d h (now (work .entry))) r ⌝ }
+{
+    let x = c.cur / 2;
+    let q = clauses::lit_at(d, h, work, x, 0);
+    let v = assignment::value(d, h, work, q);
+    if v == 0 {
+        let r = pass(d, h, work, p, c, q);
+        return Step {
+            head: h,
+            cursor: r,
+            clash: false,
+        };
+    }
+    let k = new_watch(d, h, work, x);
+    let n = clauses::size(d, h, work, x);
+    if k < n {
+        let r = go(d, h, work, p, c, k, q);
+        return Step {
+            head: h,
+            cursor: r,
+            clash: false,
+        };
+    }
+    settle(d, h, work, p, c, q, v)
+}
+
+// One watch of the list of p, a literal that has become true.
+fn look(g: Config, h: Header, work: &mut [u32], p: Lit, c: Cursor) -> Step
+    requires { ⌜ Walks g h (now work) (p .0) c ⌝ }
+    requires { ⌜ 0 < c .left ⌝ }
+    ensures { λ r. ⌜ Looked g h (now (work .entry)) (now (work .exit)) (p .0) c r ⌝ }
+{
+    let d = g.sizes;
+    let x = c.cur;
+    let b = watches::blocker(d, h, work, x);
+    if assignment::value(d, h, work, b) == 0 {
+        let r = watches::stay(d, h, work, p, c);
+        return Step {
+            head: h,
+            cursor: r,
+            clash: false,
+        };
+    }
+    false_second(d, h, work, x / 2, p.negate());
+    look_clause(d, h, work, p, c)
+}
+
+// The watches of p in turn.
+fn visit(g: Config, h: Header, work: &mut [u32], p: Lit) -> Propagated
+    requires { ⌜ Still g h (now work) ⌝ }
+    requires { ⌜ p .0 ∈ (whole (g .sizes) h (now work) .assignment .vars .trail) ⌝ }
+    ensures { λ r. ⌜ Gives g h (now (work .entry)) (now (work .exit)) (visit (p .0) [] (list-at (p .0) (state-at g h (now (work .entry)))) (state-at g h (now (work .entry)))) r ⌝ }
+{
+    let d = g.sizes;
+    let mut k = h;
+    let mut c = watches::walk(d, h, work, p);
+    while 0 < c.left {
+        let s = look(g, k, work, p, c);
+        let x = c.cur;
+        k = s.head;
+        c = s.cursor;
+        if s.clash {
+            return Propagated {
+                head: k,
+                conflict: true,
+                clause: x / 2,
+            };
+        }
+    }
+    Propagated {
+        head: k,
+        conflict: false,
+        clause: 0,
+    }
+}
+
+// The literal at the head of the queue.
+fn turn(g: Config, h: Header, work: &mut [u32]) -> Propagated
+    requires { ⌜ Still g h (now work) ⌝ }
+    requires { ⌜ h .qhead < h .trail .assigned ⌝ }
+    ensures { λ r. ⌜ Gives g h (now (work .entry)) (now (work .exit)) (turn (state-at g h (now (work .entry)))) r ⌝ }
+{
+    let d = g.sizes;
+    let q = h.qhead;
+    let p = assignment::trail_at(d, h, work, q);
+    visit(g, assignment::with_qhead(h, q + 1), work, p)
+}
+
+// Takes the literals of the queue in turn, to its end or to a false clause.
+pub fn propagate(g: Config, h: Header, work: &mut [u32]) -> Propagated
+    requires { ⌜ Still g h (now work) ⌝ }
+    ensures { λ r. ⌜ Gives g h (now (work .entry)) (now (work .exit)) (propagate (g .sizes .vars) (state-at g h (now (work .entry)))) r ⌝ }
+{
+    let mut k = h;
+    while k.qhead < k.trail.assigned {
+        let r = turn(g, k, work);
+        if r.conflict {
+            return r;
+        }
+        k = r.head;
+    }
+    Propagated {
+        head: k,
+        conflict: false,
+        clause: 0,
+    }
+}

@@ -1,5 +1,5 @@
 use borrow.Author.Needs.{needs}
-use Prim.Native.Nat.{_<_, _≤_}
+use Prim.Native.Nat.{_+_, _*_, _<_, _≤_}
 use native.Mathlib.Omega.{arith}
 use mathlib.Core.Path.{_≡_, sym, ap, _∙_}
 use mathlib.Core.Option.{none, some}
@@ -31,12 +31,12 @@ new-requires : tie.Need-new-requires
 new-requires c κs =
     let a = c .before .before .before .before .before .before .before .before .args in
     let v = phase-low (a .g) (a .h) (a .work .now) (c .before .before .before .before .before .before .before .before .pre .0) (a .act .now) (c .before .before .before .pick .result) (rw (c .before .before .before .before .values .ensures) at (c .before .before .before .pick .ensures)) (c .before .if1 .left) in
-    (omega (arith, c .before .if1 .left, c .before .before .before .before .before .before .before .before .pre .0 .rep .room .vars), rw (c .phase .ensures) v)
+    (omega (arith, c .before .if1 .left, c .before .before .before .before .before .before .before .before .pre .0 .rep .room .vars), omega (arith, v, c .phase .ensures))
 
 returns-2 : tie.Need-returns-2
 returns-2 c =
     let a = c .before .before .before .before .before .before .before .before .before .args in
-    ap some (c .new .ensures) ∙ (rw (c .before .phase .ensures) (picks-some (a .g) (a .h) (a .work .now) (c .before .before .before .before .before .before .before .before .before .pre .0) (a .act .now) (c .before .before .before .before .pick .result) (rw (c .before .before .before .before .before .values .ensures) at (c .before .before .before .before .pick .ensures)) (c .before .before .if1 .left)))
+    ap some (c .new .ensures ∙ ap (λ y. 2 * c .before .before .before .before .pick .result + y) (c .before .phase .ensures)) ∙ picks-some (a .g) (a .h) (a .work .now) (c .before .before .before .before .before .before .before .before .before .pre .0) (a .act .now) (c .before .before .before .before .pick .result) (rw (c .before .before .before .before .before .values .ensures) at (c .before .before .before .before .pick .ensures)) (c .before .before .if1 .left)
 
 pub pick-branch-lit-spec : {M : Type 1} → statement M
 pick-branch-lit-spec =

@@ -1,5 +1,7 @@
 use borrow.Author.Needs.{needs}
-use mathlib.Core.Path.{_≡_, sym, _∙_}
+use mathlib.Core.Path.{_≡_, sym, subst, _∙_}
+use Rattle.lawbase.specs.Basics.{_∈_}
+use Rattle.state.specs.Still.{state-at}
 use Rattle.decide.specs.Deciding.{falls-on, falls, opens-free, opens}
 use Rattle.decide.proofs.take_up.Statement.{statement}
 use Rattle.decide.proofs.take_up.Tie as tie
@@ -10,7 +12,7 @@ negate-requires c κs = search needs
 analyze-final-requires : tie.Need-analyze-final-requires
 analyze-final-requires c κs =
     let a = c .before .before .before .before .args in
-    (c .before .before .before .before .pre .0, rw (c .before .negate .ensures) (falls-on (a .g) (a .h) (a .work .now) (c .before .before .before .before .pre .0) (a .p .0) (c .before .before .before .before .pre .1 .0) (sym (c .before .before .before .before .pre .1 .1 .0 .0) ∙ c .before .before .if1 .taken)))
+    (c .before .before .before .before .pre .0, subst (λ q. q ∈ (state-at (a .g) (a .h) (a .work .now) .vars .trail)) (sym (c .before .negate .ensures)) (falls-on (a .g) (a .h) (a .work .now) (c .before .before .before .before .pre .0) (a .p .0) (c .before .before .before .before .pre .1 .0) (sym (c .before .before .before .before .pre .1 .1 .0 .0) ∙ c .before .before .if1 .taken)))
 
 same-length : tie.Need-same-length
 same-length c = search needs

@@ -17,7 +17,7 @@ use Rattle.model.specs.Analyze.{first-uip, analyze}
 use Rattle.model.specs.Final.{analyze-final}
 use Rattle.model.specs.Search.{add-learnt-and-backtrack, turn, goes-on, search, solve-internal, most-conflicts, most-levels, most-turns, UNDEF}
 use Rattle.model.specs.Run.{run}
-use Rattle.model.specs.Book.{Demand-3}
+use Rattle.model.specs.Book.{Demand-3, Same-verdict}
 use Rattle.lawbase.specs.Basics.{_∈_, Every}
 use Rattle.lawbase.specs.Sem.{Rup}
 use Rattle.lawbase.specs.WellFormed.{WellFormed}
@@ -31,10 +31,11 @@ use Rattle.learning.specs.Final.{FinalClause, final-law, final-rup}
 use Rattle.watching.specs.Watching.{Watching, Conflict}
 use Rattle.watching.specs.Propagate.{Finished, propagate-enough}
 use Rattle.watching.specs.Result.{Rested, Clashed, propagated}
-use Rattle.ends.specs.Credit.{Ongoing, left, credit, left-most, credit-most}
+use Rattle.ends.specs.Credit.{Ongoing, left-most, credit-most, ongoing-bound}
 use Rattle.ends.specs.Turns.{Less, turn-less, search-more}
 use Rattle.ends.specs.Rounds.{Final, solve-enough, solve-final}
-use Rattle.ends.specs.Bounds.{Limited, conflicts-fit, conflicts-budget, undef-budget}
+use Rattle.ends.specs.Bounds.{Limited, conflicts-fit, conflicts-budget, undef-budget, restarts-most, nof-most}
+use Rattle.ends.specs.Spends.{run-conflicts, solves, run-spends}
 use Rattle.ends.specs.Out.{run-short}
 use Rattle.sound.specs.Intake.{Full, NoStorage, answer-two}
 use Rattle.sound.specs.Conflicts.{learnt-full}
@@ -124,8 +125,14 @@ module _ (cfg : Config) (l : Limited cfg) (ps : List ℕ) (range : Every (λ p. 
       solve-enough cfg (omega (arith, l .clauses)) (l .least-unit) ps range budget (suc (most-conflicts cfg)) (suc (most-conflicts cfg) + k) r a x o
       (omega (arith, credit-most cfg (x .state))) (omega (arith, credit-most cfg (x .state)))
 
+  -- each level is opened by an assumption, or by a decision on a variable of its own
+  pub levels-bounded : decision-level (x .state .vars) ≤ cfg .variables + length ps
+  unfolding most-levels
+  levels-bounded = ongoing-bound o
+
   module _ (flat : decision-level (x .state .vars) ≡ 0) where
-    whole-solve : Final cfg ps budget x (solve-internal cfg ps budget (suc (most-conflicts cfg)) 0 0 x)
+    -- what a solve went through: its restarts, and its last search
+    pub whole-solve : Final cfg ps budget x (solve-internal cfg ps budget (suc (most-conflicts cfg)) 0 0 x)
     whole-solve =
         solve-final cfg (omega (arith, l .clauses)) (l .least-unit) ps range budget x (suc (most-conflicts cfg)) o flat (omega (arith, credit-most cfg (x .state)))
 
@@ -140,6 +147,18 @@ module _ (cfg : Config) (l : Limited cfg) (ps : List ℕ) (range : Every (λ p. 
     pub stopped-by-budget : solve-internal cfg ps budget (suc (most-conflicts cfg)) 0 0 x .status ≡ UNDEF
         → budget ≤ solve-internal cfg ps budget (suc (most-conflicts cfg)) 0 0 x .conflicts
     stopped-by-budget = undef-budget whole-solve
+
+    -- the restarts of a solve, and the conflicts that the last one allows
+    pub restarts-bounded : whole-solve .restarts ≤ cfg .max-clauses + cfg .variables
+    restarts-bounded = restarts-most l (whole-solve .round)
+
+    pub restart-product-bounded : luby (whole-solve .restarts) * cfg .unit ≤ 65536000
+    restart-product-bounded = nof-most l (whole-solve .round)
+
+-- a run's conflicts: at most C + V + number of solves
+pub run-bounded : (s : List ℕ) (work activities out : ℕ) → Accepted s work activities out
+    → run-conflicts (header s) (records-of s) (initial (header s .variables)) ≤ header s .max-clauses + header s .variables + solves (records-of s)
+run-bounded s work activities out a = run-spends (limited s work activities out a) (records-of s) (all-ranged s work activities out a)
 
 -- the out cells are never more than refusal 12 asks for
 pub out-enough : (s : List ℕ) (work activities out : ℕ) → Accepted s work activities out → length (run (header s) (records-of s)) ≤ out
@@ -157,8 +176,14 @@ pub no-storage-for-a-learnt-clause : (cfg : Config) (s : State) → WellFormed c
     → (add-learnt-and-backtrack cfg s c level ≡ none) ↔ ((2 ≤ length c) × Full cfg (s .store) c)
 no-storage-for-a-learnt-clause cfg s h c level a = learnt-full cfg s (h .store) c level a
 
--- ---- 7. Demand 3, whole: for every accepted script, and any mix of clauses, solves, stopped solves and clauses refused storage. Its field `two-scripts` is the
--- agreement with any other run.
+-- ---- 7. Demand 3, whole: for every accepted script, and any mix of clauses, solves, stopped solves and clauses refused storage.
 
 pub demand-3 : (s : List ℕ) (work activities out : ℕ) → Accepted s work activities out → Demand-3 s (run (header s) (records-of s))
 demand-3 s work activities out a = run-demand s (fits s work activities out a)
+
+-- same clauses, same assumptions: same verdict, in two scripts as in one
+pub agreement : (s : List ℕ) (work activities out : ℕ) → Accepted s work activities out
+    → (s′ : List ℕ) (work′ activities′ out′ : ℕ) → Accepted s′ work′ activities′ out′
+    → Same-verdict s (run (header s) (records-of s)) s′ (run (header s′) (records-of s′))
+agreement s work activities out a s′ work′ activities′ out′ a′ =
+    demand-3 s work activities out a .two-scripts s′ (run (header s′) (records-of s′)) (demand-3 s′ work′ activities′ out′ a′ .answers)

@@ -1,0 +1,143 @@
+// Loops over the state's functions, for measuring them from outside.
+ghost use Prim.Native.Nat.{_*_, _<_, _≤_};
+ghost use mathlib.Core.Path.{_≡_};
+ghost use lib.ListN.{length};
+ghost use Rattle.watch.specs.View.{list-of};
+ghost use Rattle.watch.specs.Walk.{Stands};
+ghost use Rattle.state.specs.View.{Room, Rep, whole};
+ghost use Rattle.tour.specs.Live.{Live};
+use clause::Lit;
+use state::Header;
+use state::Sizes;
+use state::assignment;
+use state::watches;
+
+// The first 64 literals of `order` go on the trail.
+fn fill(d: Sizes, h: Header, work: &mut [u32], order: &[u32]) -> Header
+    requires { ⌜ Live d h (now work) ⌝ }
+    requires { ⌜ 64 ≤ length (now order) ⌝ }
+    ensures { λ r. ⌜ Live d r (now (work .exit)) ⌝ }
+{
+    let mut r = h;
+    for i in 0..64usize {
+        let p = order[i];
+        r = tour::put(d, r, work, Lit(p), 0);
+    }
+    r
+}
+
+// A level is opened, filled and taken back.
+fn turn(d: Sizes, h: Header, work: &mut [u32], order: &[u32]) -> Header
+    requires { ⌜ Live d h (now work) ⌝ }
+    requires { ⌜ 64 ≤ length (now order) ⌝ }
+    ensures { λ r. ⌜ Live d r (now (work .exit)) ⌝ }
+{
+    let a = tour::open(d, h, work);
+    let b = fill(d, a, work, order);
+    tour::back(d, b, work, 0, 2)
+}
+
+fn turns(d: Sizes, h: Header, work: &mut [u32], order: &[u32], n: u32) -> Header
+    requires { ⌜ Live d h (now work) ⌝ }
+    requires { ⌜ 64 ≤ length (now order) ⌝ }
+    ensures { λ r. ⌜ Live d r (now (work .exit)) ⌝ }
+{
+    let mut r = h;
+    for i in 0..n {
+        r = turn(d, r, work, order);
+    }
+    r
+}
+
+// 32 clauses whose first literal is 0.
+fn clauses(d: Sizes, h: Header, work: &mut [u32]) -> Header
+    requires { ⌜ Live d h (now work) ⌝ }
+    ensures { λ r. ⌜ Live d r (now (work .exit)) ⌝ }
+{
+    let mut r = h;
+    for i in 0..32u32 {
+        r = tour::add(d, r, work, Lit(0), Lit(2 * i + 2), Lit(4));
+    }
+    r
+}
+
+// n, and one more where the blocker of node x is true.
+fn count_true(d: Sizes, h: Header, work: &[u32], x: usize, n: u32) -> u32
+    requires { ⌜ Rep d h (now work) ⌝ }
+    requires { ⌜ x < 2 * d .room ⌝ }
+{
+    let b = watches::blocker(d, h, work, x);
+    if ((b.0 / 2) as usize) < d.vars {
+        if assignment::value(d, h, work, b) == 0 {
+            return std::num::wrapping_add_u32(n, 1);
+        }
+    }
+    n
+}
+
+// The list of l is walked.
+fn walk(d: Sizes, h: Header, work: &[u32], l: Lit, n: u32) -> u32
+    requires { ⌜ Live d h (now work) ⌝ }
+    requires { ⌜ l .0 < 2 * d .vars ⌝ }
+{
+    let mut k = n;
+    let mut c = watches::walk(d, h, work, l);
+    while 0 < c.left {
+        let x = c.cur;
+        k = count_true(d, h, work, x, k);
+        c = watches::stay(d, h, work, l, c);
+    }
+    k
+}
+
+fn walks(d: Sizes, h: Header, work: &[u32], l: Lit, n: u32) -> u32
+    requires { ⌜ Live d h (now work) ⌝ }
+    requires { ⌜ l .0 < 2 * d .vars ⌝ }
+{
+    let mut k: u32 = 0;
+    for i in 0..n {
+        k = walk(d, h, work, l, k);
+    }
+    k
+}
+
+// n levels, each filled and taken back: how many literals are then on the trail. With 64 variables; a short slice is refused.
+#[no_mangle]
+pub extern "C" fn leaf_trail(work: &mut [u32], order: &[u32], n: u32) -> usize
+    ensures { λ r. ⌜ r ≤ 64 ⌝ }
+{
+    if work.len() < 1986 {
+        return 1;
+    }
+    if order.len() < 64 {
+        return 1;
+    }
+    let d = Sizes {
+        vars: 64,
+        room: 64,
+        lit_room: 256,
+    };
+    let h = tour::begin(d, work);
+    let r = turns(d, h, work, order, n);
+    r.trail.assigned
+}
+
+// n walks of a list of 32 nodes, where the literals of `order` are true: how many true blockers were met.
+#[no_mangle]
+pub extern "C" fn leaf_watch(work: &mut [u32], order: &[u32], n: u32) -> u32 {
+    if work.len() < 1986 {
+        return 0;
+    }
+    if order.len() < 64 {
+        return 0;
+    }
+    let d = Sizes {
+        vars: 64,
+        room: 64,
+        lit_room: 256,
+    };
+    let h = tour::begin(d, work);
+    let a = clauses(d, h, work);
+    let b = fill(d, a, work, order);
+    walks(d, b, work, Lit(1), n)
+}

@@ -1,0 +1,4 @@
+pub mod Reducing
+pub mod Learned
+pub mod Backtracking
+pub mod Adding

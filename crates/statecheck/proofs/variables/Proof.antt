@@ -1,0 +1,63 @@
+use borrow.Author.Needs.{needs}
+use Prim.Native.Nat.{_-_, _≤_}
+use mathlib.Core.Path.{_≡_}
+use lib.ListN.{length}
+use Rattle.statecheck.proofs.variables.Statement.{statement}
+use Rattle.statecheck.proofs.variables.Tie as tie
+
+abbrev Inv-loop : tie.InvT-loop
+Inv-loop d h work v₀ t6 v-end v = (v-end ≡ d .vars) × (v ≤ v-end)
+
+abbrev μ-loop : tie.MeasureT-loop
+μ-loop d h work v₀ t6 v-end v = v-end - v
+
+slice-aggregate-write-all : tie.Need-slice-aggregate-write-all Inv-loop μ-loop
+slice-aggregate-write-all c = search needs
+
+write-all-requires : tie.Need-write-all-requires Inv-loop μ-loop
+write-all-requires c κs = search needs
+
+loop-holds : tie.Need-loop-holds Inv-loop μ-loop
+loop-holds c = search needs
+
+cast-t13 : tie.Need-cast-t13 Inv-loop μ-loop
+cast-t13 c = search needs
+
+variable-requires : tie.Need-variable-requires Inv-loop μ-loop
+variable-requires c κs = search needs
+
+add-v : tie.Need-add-v Inv-loop μ-loop
+add-v c = search needs
+
+loop-less : tie.Need-loop-less Inv-loop μ-loop
+loop-less c = search needs
+
+loop-again : tie.Need-loop-again Inv-loop μ-loop
+loop-again c = search needs
+
+slice-aggregate-write-all-2 : tie.Need-slice-aggregate-write-all-2 Inv-loop μ-loop
+slice-aggregate-write-all-2 c = search needs
+
+write-all-requires-2 : tie.Need-write-all-requires-2 Inv-loop μ-loop
+write-all-requires-2 c κs = search needs
+
+returns : tie.Need-returns Inv-loop μ-loop
+returns c = search needs
+
+pub variables-spec : {M : Type 1} → statement M
+variables-spec =
+    tie.close
+    (tie.spec
+    Inv-loop
+    μ-loop
+    slice-aggregate-write-all
+    write-all-requires
+    loop-holds
+    cast-t13
+    variable-requires
+    add-v
+    loop-less
+    loop-again
+    slice-aggregate-write-all-2
+    write-all-requires-2
+    returns)

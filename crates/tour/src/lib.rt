@@ -1,0 +1,152 @@
+// Steps over a state that test what the layer below asks, and do nothing where it does not hold.
+ghost use Prim.Native.Nat.{_+_, _*_, _<_, _≤_};
+ghost use mathlib.Core.Path.{_≡_};
+ghost use lib.ListN.{length};
+ghost use Rattle.state.specs.View.{Room};
+ghost use Rattle.tour.specs.Live.{Live};
+use clause::Lit;
+use state::Header;
+use state::Sizes;
+use state::assignment;
+use state::clauses;
+use state::marks;
+use state::start;
+use state::watches;
+
+pub fn begin(d: Sizes, work: &mut [u32]) -> Header
+    requires { ⌜ Room d (length (now work)) ⌝ }
+    ensures { λ r. ⌜ Live d r (now (work .exit)) ⌝ }
+{
+    start::start(d, work)
+}
+
+// Opens a level.
+pub fn open(d: Sizes, h: Header, work: &mut [u32]) -> Header
+    requires { ⌜ Live d h (now work) ⌝ }
+    ensures { λ r. ⌜ Live d r (now (work .exit)) ⌝ }
+{
+    if h.trail.levels < 3 * d.vars {
+        return assignment::new_decision_level(d, h, work);
+    }
+    h
+}
+
+// Puts a literal on the trail.
+pub fn put(d: Sizes, h: Header, work: &mut [u32], p: Lit, from: u32) -> Header
+    requires { ⌜ Live d h (now work) ⌝ }
+    ensures { λ r. ⌜ Live d r (now (work .exit)) ⌝ }
+{
+    if h.trail.assigned < d.vars {
+        if ((p.0 / 2) as usize) < d.vars {
+            return assignment::enqueue(d, h, work, p, from);
+        }
+    }
+    h
+}
+
+// Back to a level, where its end is on the trail and not above the last level's.
+pub fn back(d: Sizes, h: Header, work: &mut [u32], level: usize, phase: u32) -> Header
+    requires { ⌜ Live d h (now work) ⌝ }
+    ensures { λ r. ⌜ Live d r (now (work .exit)) ⌝ }
+{
+    let n = h.trail.levels;
+    if level < n {
+        let a = assignment::limit_at(d, h, work, level);
+        let b = assignment::limit_at(d, h, work, n - 1);
+        if a <= h.trail.assigned {
+            if a <= b {
+                return assignment::cancel_until(d, h, work, level, phase);
+            }
+        }
+    }
+    h
+}
+
+// The first node of the list of l gets the blocker b.
+pub fn reblock(d: Sizes, h: Header, work: &mut [u32], l: Lit, b: Lit)
+    requires { ⌜ Live d h (now work) ⌝ }
+    ensures { λ _. ⌜ Live d h (now (work .exit)) ⌝ }
+{
+    if (l.0 as usize) >= 2 * d.vars {
+        return;
+    }
+    if watches::count(d, h, work, l) == 0 {
+        return;
+    }
+    let x = watches::first(d, h, work, l);
+    watches::set_blocker(d, h, work, x, b);
+}
+
+// The first node of the list of l goes to the list of m, with the blocker b.
+pub fn send(d: Sizes, h: Header, work: &mut [u32], l: Lit, m: Lit, b: Lit)
+    requires { ⌜ Live d h (now work) ⌝ }
+    ensures { λ _. ⌜ Live d h (now (work .exit)) ⌝ }
+{
+    let n = 2 * d.vars;
+    if (l.0 as usize) >= n {
+        return;
+    }
+    if (m.0 as usize) >= n {
+        return;
+    }
+    if l.0 == m.0 {
+        return;
+    }
+    let c = watches::walk(d, h, work, l);
+    if c.left == 0 {
+        return;
+    }
+    watches::leave(d, h, work, l, c, m, b);
+}
+
+// Stores a clause of three literals and attaches it.
+fn add_three(d: Sizes, h: Header, work: &mut [u32], p: Lit, q: Lit, r: Lit) -> Header
+    requires { ⌜ Live d h (now work) ⌝ }
+    requires { ⌜ (h .store .clauses < d .room) × (h .store .literals + 3 ≤ d .«lit_room») × (p .0 < 2 * d .vars) × (q .0 < 2 * d .vars) ⌝ }
+    ensures { λ r. ⌜ Live d r (now (work .exit)) ⌝ }
+{
+    let e = clauses::discard(d, h, work);
+    let f = clauses::push_lit(d, e, work, p);
+    let g = clauses::push_lit(d, f, work, q);
+    let k = clauses::push_lit(d, g, work, r);
+    watches::store_pushed(d, k, work)
+}
+
+// The same, where there is room and the first two are literals.
+pub fn add(d: Sizes, h: Header, work: &mut [u32], p: Lit, q: Lit, r: Lit) -> Header
+    requires { ⌜ Live d h (now work) ⌝ }
+    ensures { λ r. ⌜ Live d r (now (work .exit)) ⌝ }
+{
+    let n = 2 * d.vars;
+    if h.store.clauses < d.room {
+        if h.store.literals + 3 <= d.lit_room {
+            if (p.0 as usize) < n {
+                if (q.0 as usize) < n {
+                    return add_three(d, h, work, p, q, r);
+                }
+            }
+        }
+    }
+    h
+}
+
+// One literal more in the final clause.
+pub fn finish(d: Sizes, h: Header, work: &mut [u32], l: Lit) -> Header
+    requires { ⌜ Live d h (now work) ⌝ }
+    ensures { λ r. ⌜ Live d r (now (work .exit)) ⌝ }
+{
+    if (l.0 as usize) < 2 * d.vars {
+        if h.finals.count <= d.vars {
+            return marks::final_insert(d, h, work, l);
+        }
+    }
+    h
+}
+
+// The final clause with no literals.
+pub fn unfinish(d: Sizes, h: Header, work: &mut [u32]) -> Header
+    requires { ⌜ Live d h (now work) ⌝ }
+    ensures { λ r. ⌜ Live d r (now (work .exit)) ⌝ }
+{
+    marks::final_clear(d, h, work)
+}

@@ -3,10 +3,12 @@ use Prim.Native.Nat.{ℕ, _+_, _*_, _≤_, _<_}
 use native.Mathlib.Omega.{arith}
 use mathlib.Core.Path.{_≡_, refl, sym, ap, _∙_, subst}
 use mathlib.Core.Logic.{_⊎_, inl, inr}
+use mathlib.Core.Bool.{Bool, true, false}
 use mathlib.Core.List.{List, [], _∷_, _++_, append-assoc, append-nil}
 use lib.ListN.{length, take, drop, length-take, take-append-drop}
 use lib.Seq.{paste, take-paste, drop-paste, length-paste, take-length, drop-drop, length-take-le}
 use lib.Ieee.{Float}
+use lib.Dec.{eqb}
 use borrow.Author.Tests.{eq-eqb, ne-eqb}
 use Rattle.model.specs.Limits.{header-cells, solve-besides}
 use Rattle.model.specs.Script as Script
@@ -18,11 +20,13 @@ use Rattle.model.specs.Search.{Solved}
 use Rattle.model.specs.Run.{answers, run}
 use Rattle.lawbase.specs.WellFormed.{WellFormed}
 use Rattle.assign.specs.Initial.{initial-formed}
-use Rattle.script.specs.Walk.{kind-at, count-at, literals-at, budget-at, record-at, records-from, records-step, next-at}
+use Rattle.script.specs.Walk.{kind-at, count-at, literals-at, budget-at, record-at, records-from, records-step, next-at, RecordAt}
 use Rattle.script.specs.Sound.{RecordIn, Readable, readable-here, readable-next}
 use Rattle.script.specs.Accepted.{records-first}
 use Rattle.script.specs.Needs.{cost-at, cost-solve, cost-clause, needed-step}
 use Rattle.script.specs.Answers.{answers-from, run-answers, answers-end}
+use Rattle.reader.specs.declared.Seen.{Seen}
+use Rattle.reader.specs.Seen.{asked-at, seen-at}
 use Rattle.ends.specs.Answer.{Idle, solve-short}
 use Rattle.ends.specs.Bounds.{Limited}
 use Rattle.ends.specs.Out.{initial-idle}
@@ -52,78 +56,74 @@ answers-step cfg (solve assumptions budget) rs x = refl
 
 -- ---- one record
 
--- the record at `at` is whole and fits, and out has room for its answer from o on
-pub record Reads (g : Config) (s : List ℕ) (at o n : ℕ) : Type 0 where
-  pub here : RecordIn (g .sizes .vars) s at
-  pub room : o + cost-at (g .sizes .vars) s at ≤ n
+-- a record by its kind, its literals and its budget
+unfoldable pub record-of : ℕ → List ℕ → ℕ → Record
+record-of kind ls budget = elim (eqb kind solve-kind) [ true ↦ solve ls budget | false ↦ clause ls ]
 
-module _ (s : List ℕ) (at : ℕ) where
-  solve-at : kind-at s at ≡ solve-kind → record-at s at ≡ solve (literals-at s at) (budget-at s at)
-  unfolding record-at
-  solve-at e = rw (eq-eqb (kind-at s at) solve-kind e, record-at)
-
-  clause-at : (kind-at s at ≡ solve-kind → ⊥) → record-at s at ≡ clause (literals-at s at)
-  unfolding record-at
-  clause-at e = rw (ne-eqb (kind-at s at) solve-kind e, record-at)
-
-step-solve : (cfg : Script.Config) (x : Solver) (ps : List ℕ) (budget : ℕ) → step cfg (solve ps budget) x ≡ Search.solve cfg x ps budget
-unfolding step
-step-solve cfg x ps budget = refl
+-- its literals fit, and out has room for its answer from o on
+pub record Fits (g : Config) (kind : ℕ) (ls : List ℕ) (o n : ℕ) : Type 0 where
+  pub literals : Assumable g ls
+  pub solve-room : kind ≡ solve-kind → o + (g .sizes .vars + solve-besides) ≤ n
+  pub clause-room : (kind ≡ solve-kind → ⊥) → o + 1 ≤ n
 
 abbrev clause-step : Script.Config → List ℕ → Solver → Solved
 clause-step cfg c x =
     record { solver = with-state x (add-clause cfg (x .state) c .state); answer = add-clause cfg (x .state) c .answer ∷ [] }
 
-step-clause : (cfg : Script.Config) (x : Solver) (c : List ℕ) → step cfg (clause c) x ≡ clause-step cfg c x
-unfolding step
-step-clause cfg x c = refl
+module _ (cfg : Script.Config) (x : Solver) (kind : ℕ) (ls : List ℕ) (budget : ℕ) where
+  step-solve : kind ≡ solve-kind → step cfg (record-of kind ls budget) x ≡ Search.solve cfg x ls budget
+  unfolding step record-of
+  step-solve e = rw (eq-eqb kind solve-kind e, record-of)
 
-module _ (g : Config) (s : List ℕ) (at o n : ℕ) (h : Reads g s at o n) where
-  pub literals-fit : Assumable g (literals-at s at)
-  literals-fit =
-      record { count = omega (arith, length-take (count-at s at) (drop (at + 2) s), h .here .count); range = h .here .literals }
-
-  pub solve-room : kind-at s at ≡ solve-kind → o + (g .sizes .vars + solve-besides) ≤ n
-  solve-room e = omega (arith, h .room, cost-solve (g .sizes .vars) s at e)
-
-  pub clause-room : (kind-at s at ≡ solve-kind → ⊥) → o + 1 ≤ n
-  clause-room e = omega (arith, h .room, cost-clause (g .sizes .vars) s at e)
+  step-clause : (kind ≡ solve-kind → ⊥) → step cfg (record-of kind ls budget) x ≡ clause-step cfg ls x
+  unfolding step record-of
+  step-clause e = rw (ne-eqb kind solve-kind e, record-of)
 
 -- what the step of a record leaves
 abbrev pub Stepped : Config → Solved → List ℕ → ℕ → Next → List ℕ → List Float → List ℕ → Type 0
 Stepped g q out o r w acts out′ = Answered g (q .solver) (q .answer) out o r w acts out′
 
-module _ (g : Config) (s : List ℕ) (at o : ℕ) (x : Solver) (out : List ℕ) (r : Next) (w : List ℕ) (acts : List Float) (out′ : List ℕ) (ps : List ℕ)
-    (same : ps ≡ literals-at s at) where
-  pub stepped-solve : (budget : ℕ) → budget ≡ budget-at s at → kind-at s at ≡ solve-kind
-      → Stepped g (Search.solve (config-of g) x ps budget) out o r w acts out′ → Stepped g (step (config-of g) (record-at s at) x) out o r w acts out′
-  stepped-solve budget f e a =
-      subst (λ (q : Solved). Stepped g q out o r w acts out′)
-      (ap (λ (ls : List ℕ). Search.solve (config-of g) x ls budget) same ∙ ap (Search.solve (config-of g) x (literals-at s at)) f
-      ∙ sym (ap (λ (y : Record). step (config-of g) y x) (solve-at s at e) ∙ step-solve (config-of g) x (literals-at s at) (budget-at s at)))
-      a
+module _ (g : Config) (kind : ℕ) (ls : List ℕ) (budget o : ℕ) (x : Solver) (out : List ℕ) (r : Next) (w : List ℕ) (acts : List Float) (out′ : List ℕ) where
+  abbrev Left : Solved → Type 0
+  Left q = Stepped g q out o r w acts out′
 
-  pub stepped-clause : (kind-at s at ≡ solve-kind → ⊥) → Stepped g (clause-step (config-of g) ps x) out o r w acts out′
-      → Stepped g (step (config-of g) (record-at s at) x) out o r w acts out′
-  stepped-clause e a =
-      subst (λ (q : Solved). Stepped g q out o r w acts out′)
-      (ap (λ (ls : List ℕ). clause-step (config-of g) ls x) same
-      ∙ sym (ap (λ (y : Record). step (config-of g) y x) (clause-at s at e) ∙ step-clause (config-of g) x (literals-at s at)))
-      a
+  pub stepped-solve : kind ≡ solve-kind → Left (Search.solve (config-of g) x ls budget) → Left (step (config-of g) (record-of kind ls budget) x)
+  stepped-solve e = subst Left (sym (step-solve (config-of g) x kind ls budget e))
+
+  pub stepped-clause : (kind ≡ solve-kind → ⊥) → Left (clause-step (config-of g) ls x) → Left (step (config-of g) (record-of kind ls budget) x)
+  stepped-clause e = subst Left (sym (step-clause (config-of g) x kind ls budget e))
+
+-- what a reader sees at a cell is the record there
+module _ (s : List ℕ) (at : ℕ) where
+  record-read : record-of (kind-at s at) (literals-at s at) (asked-at s at) ≡ record-at s at
+  unfolding record-of record-at asked-at
+  record-read = go (eqb (kind-at s at) solve-kind)
+    where
+      go : (b : Bool) → _≡_ {A = Record} (elim b as (λ _. Record) [ true ↦ solve (literals-at s at) (elim b as (λ _. ℕ) [ true ↦ budget-at s at | false ↦ 0 ]) | false ↦ clause (literals-at s at) ])
+          (elim b as (λ _. Record) [ true ↦ solve (literals-at s at) (budget-at s at) | false ↦ clause (literals-at s at) ])
+      go true = refl
+      go false = refl
+
+  pub record-seen : (z : Seen) (ls : List ℕ) → z ≡ seen-at s at → ls ≡ literals-at s at → record-of (z .kind) ls (z .budget) ≡ record-at s at
+  record-seen z ls e f =
+      ap (λ (y : Seen). record-of (y .kind) ls (y .budget)) e ∙ ap (λ (l : List ℕ). record-of (kind-at s at) l (asked-at s at)) f ∙ record-read
 
 -- a step's cells are never more than its cost
 module _ {cfg : Script.Config} (l : Limited cfg) (s : List ℕ) (at : ℕ) (h : RecordIn (cfg .variables) s at) (x : Solver) (i : Idle cfg (x .state)) where
   step-short : length (step cfg (record-at s at) x .answer) ≤ cost-at (cfg .variables) s at
   step-short = go (h .kind)
     where
+      read : step cfg (record-at s at) x ≡ step cfg (record-of (kind-at s at) (literals-at s at) (asked-at s at)) x
+      read = ap (λ (y : Record). step cfg y x) (sym (record-read s at))
+
       go : (kind-at s at ≡ clause-kind) ⊎ (kind-at s at ≡ solve-kind) → length (step cfg (record-at s at) x .answer) ≤ cost-at (cfg .variables) s at
       go (inl e) =
           let n : kind-at s at ≡ solve-kind → ⊥ = λ f. omega (arith, e, f) in
-          let q = ap (λ (y : Record). length (step cfg y x .answer)) (clause-at s at n) ∙ ap (λ (z : Solved). length (z .answer)) (step-clause cfg x (literals-at s at)) in
+          let q = ap (λ (z : Solved). length (z .answer)) (read ∙ step-clause cfg x (kind-at s at) (literals-at s at) (asked-at s at) n) in
           omega (arith, q, cost-clause (cfg .variables) s at n)
       go (inr e) =
-          let q = ap (λ (y : Record). length (step cfg y x .answer)) (solve-at s at e) ∙ ap (λ (z : Solved). length (z .answer)) (step-solve cfg x (literals-at s at) (budget-at s at)) in
-          omega (arith, q, cost-solve (cfg .variables) s at e, solve-short l x (literals-at s at) (h .literals) (budget-at s at) i)
+          let q = ap (λ (z : Solved). length (z .answer)) (read ∙ step-solve cfg x (kind-at s at) (literals-at s at) (asked-at s at) e) in
+          omega (arith, q, cost-solve (cfg .variables) s at e, solve-short l x (literals-at s at) (h .literals) (asked-at s at) i)
 
 -- ---- all records
 
@@ -194,8 +194,22 @@ module _ (g : Config) (l : Limited (config-of g)) (s out₀ : List ℕ) (x : sea
   here : RecordIn (g .sizes .vars) s at
   here = readable-here (g .sizes .vars) s at inside (k .readable)
 
-  pub recording-reads : Reads g s at o (length out)
-  recording-reads = record { here = here; room = omega (arith, k .room, k .size, needed-step (g .sizes .vars) s at inside) }
+  room-here : o + cost-at (g .sizes .vars) s at ≤ length out
+  room-here = omega (arith, k .room, k .size, needed-step (g .sizes .vars) s at inside)
+
+  pub recording-whole : RecordAt s at
+  recording-whole = here .whole
+
+  literals-fit : Assumable g (literals-at s at)
+  literals-fit = record { count = omega (arith, length-take (count-at s at) (drop (at + 2) s), here .count); range = here .literals }
+
+  pub recording-fits : (kind : ℕ) (ls : List ℕ) → kind ≡ kind-at s at → ls ≡ literals-at s at → Fits g kind ls o (length out)
+  recording-fits kind ls e f =
+      record {
+        literals = subst (Assumable g) (sym f) literals-fit;
+        solve-room = λ h. omega (arith, room-here, cost-solve (g .sizes .vars) s at (sym e ∙ h));
+        clause-room = λ h. omega (arith, room-here, cost-clause (g .sizes .vars) s at (λ q. h (e ∙ q)));
+      }
 
   abbrev done : Solved
   done = step (config-of g) (record-at s at) (solver-at g x w acts)
@@ -206,7 +220,7 @@ module _ (g : Config) (l : Limited (config-of g)) (s out₀ : List ℕ) (x : sea
   -- the cells pasted at o
   module _ (out′ : List ℕ) (e : out′ ≡ paste out o (done .answer) (length (done .answer))) where
     fits : o + length (done .answer) ≤ length out
-    fits = omega (arith, short, recording-reads .room)
+    fits = omega (arith, short, room-here)
 
     taken : take (o + length (done .answer)) out′ ≡ take o out ++ done .answer
     taken =
@@ -221,9 +235,10 @@ module _ (g : Config) (l : Limited (config-of g)) (s out₀ : List ℕ) (x : sea
     sized : length out′ ≡ length out₀
     sized = ap length e ∙ length-paste out o (done .answer) (length (done .answer)) fits (omega arith) ∙ k .size
 
-  pub recording-step : (r : Next) (w′ : List ℕ) (acts′ : List Float) (out′ : List ℕ) → Stepped g done out o r w′ acts′ out′ → (at′ : ℕ) → at′ ≡ next-at s at
-      → Recording g s out₀ (r .solver) at′ (r .at) w′ acts′ out′
-  recording-step r w′ acts′ out′ a at′ f =
+  pub recording-step : (y : Record) → y ≡ record-at s at → (r : Next) (w′ : List ℕ) (acts′ : List Float) (out′ : List ℕ) → Stepped g (step (config-of g) y (solver-at g x w acts)) out o r w′ acts′ out′
+      → (at′ : ℕ) → at′ ≡ next-at s at → Recording g s out₀ (r .solver) at′ (r .at) w′ acts′ out′
+  recording-step y same r w′ acts′ out′ b at′ f =
+      let a : Stepped g done out o r w′ acts′ out′ = subst (λ (z : Record). Stepped g (step (config-of g) z (solver-at g x w acts)) out o r w′ acts′ out′) same b in
       rw (f, a .at)
       (record {
         between = a .between;

@@ -8,7 +8,6 @@ ghost use Rattle.model.specs.Script.{header};
 ghost use Rattle.model.specs.State.{f64-zero};
 ghost use Rattle.model.specs.Run.{run};
 ghost use Rattle.ends.specs.Bounds.{Limited};
-ghost use Rattle.script.specs.Walk.{record-at};
 ghost use Rattle.script.specs.Accepted.{Accepted};
 ghost use Rattle.script.specs.Needs.{sized, out-len-of};
 ghost use Rattle.model.specs.Script.{work-needed, records-of};
@@ -16,7 +15,7 @@ ghost use Rattle.state.specs.Still.{config-of};
 ghost use Rattle.search.specs.Held.{solver-at};
 ghost use Rattle.answer.specs.Answered.{Between, Answered};
 ghost use Rattle.engine.specs.Runs.{Runs, Gives};
-ghost use Rattle.engine.specs.Recording.{step, Reads, Lent, Written};
+ghost use Rattle.engine.specs.Recording.{step, record-of, Fits, Lent, Written};
 use answer::Next;
 use script::Judgement;
 use search::Solver;
@@ -52,12 +51,13 @@ fn config(script: &[u32]) -> Config
     }
 }
 
-// The record that begins at this cell of the script; its answer goes to out, from o on.
+// A record of this kind, with these literals and a solve's budget; its answer goes to out, from o on.
 fn record(
     g: Config,
     x: Solver,
-    script: &[u32],
-    at: usize,
+    kind: u32,
+    part: &[u32],
+    budget: u32,
     work: &mut [u32],
     act: &mut [f64],
     out: &mut [u32],
@@ -65,12 +65,10 @@ fn record(
 ) -> Next
     requires { ⌜ Between g x (now work) (now act) ⌝ }
     requires { ⌜ Limited (config-of g) ⌝ }
-    requires { ⌜ Reads g (now script) at o (length (now out)) ⌝ }
-    ensures { λ r. ⌜ Answered g (step (config-of g) (record-at (now (script .entry)) at) (solver-at g x (now (work .entry)) (now (act .entry))) .solver) (step (config-of g) (record-at (now (script .entry)) at) (solver-at g x (now (work .entry)) (now (act .entry))) .answer) (now (out .entry)) o r (now (work .exit)) (now (act .exit)) (now (out .exit)) ⌝ }
+    requires { ⌜ Fits g kind (now part) o (length (now out)) ⌝ }
+    ensures { λ r. ⌜ Answered g (step (config-of g) (record-of kind (now (part .entry)) budget) (solver-at g x (now (work .entry)) (now (act .entry))) .solver) (step (config-of g) (record-of kind (now (part .entry)) budget) (solver-at g x (now (work .entry)) (now (act .entry))) .answer) (now (out .entry)) o r (now (work .exit)) (now (act .exit)) (now (out .exit)) ⌝ }
 {
-    let part = script::literals(script, at);
-    if script::kind(script, at) == 2 {
-        let budget = script::budget(script, at);
+    if kind == 2 {
         return answer::solve(g, x, work, act, part, budget, out, o);
     }
     answer::clause(g, x, work, act, part, out, o)
@@ -90,10 +88,12 @@ fn records(g: Config, script: &[u32], work: &mut [u32], act: &mut [f64], out: &m
     let mut at: usize = 6;
     let mut o: usize = 0;
     while at < script.len() {
-        let r = record(g, x, script, at, work, act, out, o);
+        let seen = reader::read(script, at);
+        let part = reader::part(script, at);
+        let r = record(g, x, seen.kind, part, seen.budget, work, act, out, o);
         x = r.solver;
         o = r.at;
-        at = script::next(script, at);
+        at = seen.next;
     }
     o
 }

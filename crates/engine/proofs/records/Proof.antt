@@ -1,10 +1,10 @@
 use Prim.Native.Nat.{_-_, _<_, _≤_}
 use native.Mathlib.Omega.{arith}
-use mathlib.Core.Path.{_≡_, refl, sym, _∙_}
+use mathlib.Core.Path.{_≡_, refl, ap, _∙_}
 use lib.ListN.{length}
 use borrow.Author.Needs.{needs}
-use Rattle.script.specs.Walk.{next-at}
-use Rattle.engine.specs.Recording.{Recording, recording-start, recording-reads, recording-step, recording-end}
+use Rattle.reader.specs.declared.Seen.{Seen}
+use Rattle.engine.specs.Recording.{Recording, recording-start, recording-whole, recording-fits, record-seen, recording-step, recording-end}
 use Rattle.engine.proofs.records.Statement.{statement}
 use Rattle.engine.proofs.records.Tie as tie
 
@@ -30,34 +30,43 @@ loop-holds c =
       (refl, refl),
     )
 
+read-requires : tie.Need-read-requires Inv-loop μ-loop
+read-requires c κs =
+    let a = c .before .before .before .before .before .before .before .before .before .before .before .before .before .before .args in
+    let p = c .before .before .before .before .before .before .before .before .before .before .before .before .before .before .pre in
+    let l = c .before .loop in
+    recording-whole (a .g) (p .limited) (a .script .now) (a .out .now) (l .x) (l .at) (l .o) (l .work) (l .act) (l .out) (l .inv .0) (c .loop-test .taken)
+
+part-requires : tie.Need-part-requires Inv-loop μ-loop
+part-requires c κs =
+    let a = c .before .before .before .before .before .before .before .before .before .before .before .before .before .before .before .args in
+    let p = c .before .before .before .before .before .before .before .before .before .before .before .before .before .before .before .pre in
+    let l = c .before .before .loop in
+    recording-whole (a .g) (p .limited) (a .script .now) (a .out .now) (l .x) (l .at) (l .o) (l .work) (l .act) (l .out) (l .inv .0) (c .before .loop-test .taken)
+
 record-requires : tie.Need-record-requires Inv-loop μ-loop
 record-requires c κs =
-    let a = c .before .before .before .before .before .before .before .before .before .before .before .before .before .before .before .before .before .args in
-    let p = c .before .before .before .before .before .before .before .before .before .before .before .before .before .before .before .before .before .pre in
-    let l = c .before .before .before .before .loop in (
+    let a = c .before .before .before .before .before .before .before .before .before .before .before .before .before .before .before .before .before .before .before .args in
+    let p = c .before .before .before .before .before .before .before .before .before .before .before .before .before .before .before .before .before .before .before .pre in
+    let l = c .before .before .before .before .before .before .loop in
+    let seen = c .before .before .before .before .read in (
       l .inv .0 .between,
-      (p .limited, recording-reads (a .g) (p .limited) (a .script .now) (a .out .now) (l .x) (l .at) (l .o) (l .work) (l .act) (l .out) (l .inv .0) (c .before .before .before .loop-test .taken)),
+      (p .limited, recording-fits (a .g) (p .limited) (a .script .now) (a .out .now) (l .x) (l .at) (l .o) (l .work) (l .act) (l .out) (l .inv .0) (c .before .before .before .before .before .loop-test .taken) (seen .result .kind) _ (ap (λ (z : Seen). z .kind) (seen .ensures)) (c .before .before .before .part .ensures)),
     )
 
-next-requires : tie.Need-next-requires Inv-loop μ-loop
-next-requires c κs =
-    let a = c .before .before .before .before .before .before .before .before .before .before .before .before .before .before .before .before .before .before .before .before .before .before .before .before .before .args in
-    let p = c .before .before .before .before .before .before .before .before .before .before .before .before .before .before .before .before .before .before .before .before .before .before .before .before .before .pre in
-    let l = c .before .before .before .before .before .before .before .before .before .before .before .before .loop in
-    recording-reads (a .g) (p .limited) (a .script .now) (a .out .now) (l .x) (l .at) (l .o) (l .work) (l .act) (l .out) (l .inv .0) (c .before .before .before .before .before .before .before .before .before .before .before .loop-test .taken) .here .whole
-
 loop-less : tie.Need-loop-less Inv-loop μ-loop
-loop-less c = omega (arith, c .next .ensures, c .before .before .before .before .before .before .before .before .before .before .before .before .loop-test .taken)
+loop-less c = omega (arith, ap (λ (z : Seen). z .next) (c .before .before .before .before .before .before .before .before .before .before .before .before .read .ensures), c .before .before .before .before .before .before .before .before .before .before .before .before .before .loop-test .taken)
 
 loop-again : tie.Need-loop-again Inv-loop μ-loop
 loop-again c =
-    let a = c .before .before .before .before .before .before .before .before .before .before .before .before .before .before .before .before .before .before .before .before .before .before .before .before .before .before .args in
-    let p = c .before .before .before .before .before .before .before .before .before .before .before .before .before .before .before .before .before .before .before .before .before .before .before .before .before .before .pre in
-    let l = c .before .before .before .before .before .before .before .before .before .before .before .before .before .loop in
-    let r = c .before .before .before .before .before .before .before .before .«record» in (
-      recording-step (a .g) (p .limited) (a .script .now) (a .out .now) (l .x) (l .at) (l .o) (l .work) (l .act) (l .out) (l .inv .0) (c .before .before .before .before .before .before .before .before .before .before .before .before .loop-test .taken) (r .result) _ _ _
-          (r .ensures) _ (c .next .ensures),
-      (r .kept .1 .1 .1 .1 .0 ∙ l .inv .1 .0, r .kept .1 .1 .1 .1 .1 .0 ∙ l .inv .1 .1),
+    let a = c .before .before .before .before .before .before .before .before .before .before .before .before .before .before .before .before .before .before .before .before .before .before .before .before .before .before .before .args in
+    let p = c .before .before .before .before .before .before .before .before .before .before .before .before .before .before .before .before .before .before .before .before .before .before .before .before .before .before .before .pre in
+    let l = c .before .before .before .before .before .before .before .before .before .before .before .before .before .before .loop in
+    let seen = c .before .before .before .before .before .before .before .before .before .before .before .before .read in
+    let r = c .before .before .before .before .before .before .before .«record» in (
+      recording-step (a .g) (p .limited) (a .script .now) (a .out .now) (l .x) (l .at) (l .o) (l .work) (l .act) (l .out) (l .inv .0) (c .before .before .before .before .before .before .before .before .before .before .before .before .before .loop-test .taken) _ (record-seen (a .script .now) (l .at) (seen .result) _ (seen .ensures) (c .before .before .before .before .before .before .before .before .before .before .before .part .ensures)) (r .result) _ _ _ (r .ensures) _
+          (ap (λ (z : Seen). z .next) (seen .ensures)),
+      (r .kept .1 .1 .1 .1 .1 .0 ∙ l .inv .1 .0, r .kept .1 .1 .1 .1 .1 .1 .0 ∙ l .inv .1 .1),
     )
 
 same-length : tie.Need-same-length Inv-loop μ-loop
@@ -85,8 +94,9 @@ records-spec =
     start-requires
     initial-requires
     loop-holds
+    read-requires
+    part-requires
     record-requires
-    next-requires
     loop-less
     loop-again
     same-length

@@ -12,7 +12,6 @@ use prog.Memory.{Memory}
 use prog.Routine.{Routine}
 use prog.Wp.{Heap, Calls, Loops, WpFn, Tables}
 use ghost.Atoms.{Atoms, sem}
-use contract.Lifetimes.{Lfts}
 use contract.Monad.{Fun, fact}
 use contract.Running.{givenOf, tables, tablesOf}
 use types.Kit.{Given, ‵, raw, _⊛_, ⋆, some, later, _$_, _∵_, !, qed, by, move, use1, use2, split, join, pick, fsplit, fjoin, suffices, frame, await, done}
@@ -37,6 +36,7 @@ use denote.Exit.{yes}
 use denote.Triple.Clauses.{ensured, lasts}
 use Rattle.script.specs.Walk.{literals-at, RecordAt}
 use Rattle.reader.specs.declared.Reader.{Reader}
+use Rattle.reader.proofs.Thin.{B}
 use Rattle.reader.proofs.Reader as T
 use Rattle.reader.proofs.Reader.Laws as T′
 use Rattle.reader.proofs.reach as reach
@@ -51,10 +51,6 @@ use Rattle.reader.proofs.part.Key.{name as #reader·part}
 use Rattle.reader.proofs.part as part
 use Rattle.reader.proofs.part.Statement as stated
 use Rattle.reader.proofs.part.Code as code
-
--- the struct's type, over the signature's lifetimes
-abbrev B : Lfts 1 → RattleType
-B κs = T.the-row (namedLft 1 0 tt κs)
 
 abbrev stayed : Stays (part.ended .signature .params) (part.ended .kept)
 stayed = (stay-none-slice (0 ∷ []) tt (plain (λ _. u32)) yes, (stay-none (λ _. usize) yes, tt))

@@ -14,7 +14,6 @@ use prog.Memory.{Memory}
 use prog.Routine.{Routine}
 use prog.Wp.{Heap, Calls, Loops, WpFn, Tables}
 use ghost.Atoms.{Atoms, sem}
-use contract.Lifetimes.{Lfts}
 use contract.Monad.{Fun, fact}
 use contract.Running.{givenOf, tables, tablesOf}
 use types.Kit.{Given, ‵, raw, _⊛_, ⋆, some, later, _$_, _∵_, !, qed, by, move, keep, drop, use1, use2, split, join, pick, rewrite, fsplit, fjoin, suffices, frame, await, done}
@@ -44,6 +43,7 @@ use Rattle.script.specs.Walk.{kind-at, next-at, RecordAt}
 use Rattle.reader.specs.Seen.{asked-at}
 use Rattle.reader.specs.declared.Reader.{Reader}
 use Rattle.reader.specs.declared.Seen.{Seen}
+use Rattle.reader.proofs.Thin.{B}
 use Rattle.reader.proofs.Reader as T
 use Rattle.reader.proofs.Reader.Laws as T′
 use Rattle.reader.proofs.Seen as S
@@ -68,10 +68,6 @@ use Rattle.reader.proofs.read.Key.{name as #reader·read}
 use Rattle.reader.proofs.read as read
 use Rattle.reader.proofs.read.Statement as stated
 use Rattle.reader.proofs.read.Code as code
-
--- the struct's type, over the signature's lifetimes
-abbrev B : Lfts 1 → RattleType
-B κs = T.the-row (namedLft 1 0 tt κs)
 
 abbrev stayed : Stays (read.ended .signature .params) (read.ended .kept)
 stayed = (stay-none-slice (0 ∷ []) tt (plain (λ _. u32)) yes, (stay-none (λ _. usize) yes, tt))

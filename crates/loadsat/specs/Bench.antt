@@ -1,7 +1,8 @@
--- What `loadsat` writes for an input.
+-- What `loadsat` writes for an input: `output`.
 use Prim.Native.Nat.{ℕ}
-use mathlib.Core.List.{List}
-use lib.ListN.{replicate}
+use mathlib.Core.Path.{_≡_}
+use mathlib.Core.List.{List, _++_}
+use lib.ListN.{length, drop, replicate}
 use lib.Ieee.{Float}
 use Rattle.model.specs.State.{f64-zero}
 use Rattle.model.specs.Run.{After, turned-back, ran}
@@ -25,3 +26,8 @@ shown work activities out (script cells _) = answered cells (after cells work ac
 -- with room for 128 variables, 512 clauses and 4,096 literals, and for 16,384 cells of answers
 unfoldable pub output : List ℕ → List ℕ
 output input = shown (replicate 12352 0) (replicate 128 f64-zero) (replicate max-cells 0) (read-text max-cells input)
+
+-- the bytes xs stand first in a slice, all of them, and r is how many they are; behind them it is as it was
+pub record Printed (before xs after : List ℕ) (r : ℕ) : Type 0 where
+  pub slice : after ≡ xs ++ drop (length xs) before
+  pub end : r ≡ length xs

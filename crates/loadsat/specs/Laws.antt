@@ -3,21 +3,51 @@ use Prim.Native.Nat.{ℕ, _≤_, min}
 use mathlib.Core.Path.{_≡_, sym, ap, subst, _∙_}
 use mathlib.Core.List.{List, _++_}
 use native.Mathlib.Omega.{arith}
-use lib.ListN.{length, take, drop, length-append}
+use native.Mathlib.Nat.{zero-add}
+use lib.ListN.{length, getD, take, drop, length-append}
+use mir.Val.{Fits}
+use mir.Syntax.{w32}
 use lib.Ieee.{Float}
-use lib.Seq.{take-at}
+use lib.Seq.{take-at, sets-eq, length-take-le}
 use Rattle.model.specs.Run.{After, turned-back, ran}
 use Rattle.engine.specs.Promise.{after, answer-of, Runs}
 use Rattle.engine.specs.declared.Answer as engine
 use Rattle.engine.specs.declared.Answer.the-variants as engine-answer
-use Rattle.text.specs.Limits.{max-cells}
+use Rattle.text.specs.Limits.{max-bytes, max-cells}
 use Rattle.text.specs.Format.{Reading, refused, script, read-text, record-lines}
 use Rattle.text.specs.Answers.{printed-refusal, printed}
+use Rattle.text.specs.PrintBound.{Small}
 use Rattle.text.specs.ReadLaws.{Read}
+use Rattle.text.specs.WriteLaws.{Written}
 use Rattle.text.specs.ReadLaws as read
 use Rattle.text.specs.declared.Answer as text
 use Rattle.text.specs.declared.Answer.the-variants as text-answer
-use Rattle.loadsat.specs.Bench.{answered, shown}
+use Rattle.loadsat.specs.Bench.{answered, shown, Printed}
+
+-- ---- there is room for all of it
+
+-- a slice of 32-bit cells
+pub small : (xs : List ℕ) → ((k : ℕ) → Fits w32 (getD xs k 0)) → Small xs
+unfolding Small
+small xs f k = omega (arith, f k)
+
+pub no-longer : {m n k : ℕ} → n ≡ k → k ≤ m → n ≤ m
+no-longer e h = omega (arith, e, h)
+
+pub whole : {before xs after : List ℕ} {r : ℕ} (ys : List ℕ) → max-bytes ≤ length before → Written before 0 xs after r → length xs ≤ max-bytes → xs ≡ ys
+    → Printed before ys after r
+whole {before} {xs} {after} {r} ys h w fits e =
+    subst (λ (zs : List ℕ). Printed before zs after r) e
+    record {
+      slice = w .slice ∙ sets-eq xs before 0 (omega arith) ∙ ap (λ (k : ℕ). xs ++ drop k before) (zero-add (length xs));
+      end = omega (arith, w .end);
+    }
+
+pub printed-as : {before xs after : List ℕ} {r : ℕ} (ys : List ℕ) → Printed before xs after r → xs ≡ ys → Printed before ys after r
+printed-as {before} {xs} {after} {r} ys p e = subst (λ (zs : List ℕ). Printed before zs after r) e p
+
+pub printed-in : {before xs after : List ℕ} {r : ℕ} → Printed before xs after r → r ≤ length after
+printed-in {before} {xs} p = omega (arith, p .end, ap length (p .slice), length-append xs (drop (length xs) before))
 
 -- ---- the run's answer
 
@@ -70,6 +100,9 @@ module _ (input : List ℕ) {before behind : List ℕ} {r : text.Answer} (h : le
     cells-in =
         let t = stored in
         omega (arith, ap length (t .3), length-append (t .0) (drop (length (t .0)) before), t .2)
+
+    pub script-short : length behind ≡ length before → length (take n behind) ≤ max-cells
+    script-short l = omega (arith, length-take-le n behind cells-in, cells-in, l, h)
 
     pub text-script : (w : List ℕ) (a : List Float) (o : List ℕ)
         → answered (take n behind) (after (take n behind) w a o) ≡ shown w a o (read-text max-cells input)

@@ -1,12 +1,11 @@
 // The bench program of document 01: reads a text of clauses and solves from standard input, runs it, and writes the answers, or why the text is refused.
-ghost use Prim.Native.Nat.{_≤_, min};
+ghost use Prim.Native.Nat.{_≤_, _<_};
 ghost use mathlib.Core.Path.{_≡_};
 ghost use lib.ListN.{length};
 ghost use Rattle.engine.specs.Promise.{after};
-ghost use Rattle.text.specs.Limits.{max-cells};
+ghost use Rattle.text.specs.Limits.{max-cells, max-bytes};
 ghost use Rattle.text.specs.Format.{read-text};
-ghost use Rattle.text.specs.WriteLaws.{Written};
-ghost use Rattle.loadsat.specs.Bench.{answered, shown, output};
+ghost use Rattle.loadsat.specs.Bench.{answered, shown, output, Printed};
 
 // A script's answers; `lines` is for the line of each record.
 fn run(
@@ -18,7 +17,8 @@ fn run(
     text: &mut [u8],
 ) -> usize
     requires { ⌜ length (now lines) ≡ max-cells ⌝ }
-    ensures { λ r. ⌜ Written (now (text .entry)) 0 (answered (now (script .entry)) (after (now (script .entry)) (now (work .entry)) (now (activities .entry)) (now (out .entry)))) (now (text .exit)) r ⌝ }
+    requires { ⌜ (length (now script) ≤ max-cells) × (length (now out) ≤ max-cells) × (max-bytes ≤ length (now text)) ⌝ }
+    ensures { λ r. ⌜ Printed (now (text .entry)) (answered (now (script .entry)) (after (now (script .entry)) (now (work .entry)) (now (activities .entry)) (now (out .entry)))) (now (text .exit)) r ⌝ }
 {
     match engine::run(script, work, activities, out) {
         engine::Answer::Refused { number, place } => text::print_refusal(number, place, text),
@@ -41,7 +41,8 @@ fn answer(
 ) -> usize
     requires { ⌜ length (now script) ≡ max-cells ⌝ }
     requires { ⌜ length (now lines) ≡ max-cells ⌝ }
-    ensures { λ r. ⌜ Written (now (text .entry)) 0 (shown (now (work .entry)) (now (activities .entry)) (now (out .entry)) (read-text max-cells (now (input .entry)))) (now (text .exit)) r ⌝ }
+    requires { ⌜ (length (now out) ≤ max-cells) × (max-bytes ≤ length (now text)) ⌝ }
+    ensures { λ r. ⌜ Printed (now (text .entry)) (shown (now (work .entry)) (now (activities .entry)) (now (out .entry)) (read-text max-cells (now (input .entry)))) (now (text .exit)) r ⌝ }
 {
     match text::read(input, script) {
         text::Answer::Refused { number, place } => text::print_refusal(number, place as u64, text),
@@ -53,7 +54,8 @@ fn answer(
 
 // What is written for an input.
 fn bench(input: &[u8], text: &mut [u8]) -> usize
-    ensures { λ r. ⌜ Written (now (text .entry)) 0 (output (now (input .entry))) (now (text .exit)) r ⌝ }
+    requires { ⌜ max-bytes ≤ length (now text) ⌝ }
+    ensures { λ r. ⌜ Printed (now (text .entry)) (output (now (input .entry))) (now (text .exit)) r ⌝ }
 {
     let mut script = [0u32; 16384];
     let mut lines = [0u32; 16384];
@@ -71,15 +73,16 @@ fn bench(input: &[u8], text: &mut [u8]) -> usize
     )
 }
 
-// From standard input to standard output.
-fn serve(input: &mut [u8], text: &mut [u8]) {
+// From standard input to standard output. Of a text that is too long, more is read than a text may have, so that it is seen to be too long.
+fn serve(input: &mut [u8], text: &mut [u8])
+    requires { ⌜ (max-bytes < length (now input)) × (max-bytes ≤ length (now text)) ⌝ }
+{
     let n = io::read_full(0, input);
     let m = bench(&input[..n], text);
     io::write_all(1, &text[..m]);
 }
 
 fn main() {
-    // one byte more than a text may have, so that a longer one is seen to be longer
     let mut input = [0u8; 1048577];
     let mut text = [0u8; 1048576];
     serve(&mut input, &mut text);

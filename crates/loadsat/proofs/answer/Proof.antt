@@ -1,7 +1,8 @@
 use mathlib.Core.Path.{sym}
-use Rattle.text.specs.WriteLaws.{written-as}
+use native.Mathlib.Omega.{arith}
+use Rattle.text.specs.PrintBound.{refusal-length}
 use lib.Seq.{length-take-le}
-use Rattle.loadsat.specs.Laws.{text-refused, cells-in, text-script}
+use Rattle.loadsat.specs.Laws.{whole, printed-as, text-refused, cells-in, script-short, text-script}
 use borrow.Author.Needs.{needs}
 use Rattle.loadsat.proofs.answer.Statement.{statement}
 use Rattle.loadsat.proofs.answer.Tie as tie
@@ -25,7 +26,8 @@ slice-aggregate-run : tie.Need-slice-aggregate-run
 slice-aggregate-run c = sym (length-take-le _ _ (cells-in _ (c .before .before .before .before .before .before .before .before .before .before .before .before .before .before .before .pre .0) (c .before .before .before .before .before .before .read .ensures) _ _ (c .before .before .cells .given .1)))
 
 run-requires : tie.Need-run-requires
-run-requires c κs = search needs
+run-requires c κs =
+    (c .before .before .before .before .before .before .before .before .before .before .before .before .before .before .before .before .before .before .before .before .pre .1 .0, (script-short _ (c .before .before .before .before .before .before .before .before .before .before .before .before .before .before .before .before .before .before .before .before .pre .0) (c .before .before .before .before .before .before .before .before .before .before .before .read .ensures) _ _ (c .before .before .before .before .before .before .before .cells .given .1) (c .before .before .before .before .before .before .before .before .before .before .before .read .kept .1 .0), c .before .before .before .before .before .before .before .before .before .before .before .before .before .before .before .before .before .before .before .before .pre .1 .1 .0, c .before .before .before .before .before .before .before .before .before .before .before .before .before .before .before .before .before .before .before .before .pre .1 .1 .1))
 
 same-length : tie.Need-same-length
 same-length c = search needs
@@ -34,7 +36,9 @@ same-length-2 : tie.Need-same-length-2
 same-length-2 c = search needs
 
 returns : tie.Need-returns
-returns c = written-as _ (c .before .before .print-refusal .ensures) (text-refused _ (c .before .before .before .before .before .before .before .before .before .before .before .before .before .before .before .before .before .before .pre .0) (c .before .before .before .before .before .before .before .before .before .read .ensures) _ _ _ _ _ (c .before .before .before .before .before .number .given .1))
+returns c =
+    whole _ (c .before .before .before .before .before .before .before .before .before .before .before .before .before .before .before .before .before .before .pre .1 .1 .1) (c .before .before .print-refusal .ensures) (refusal-length _ _ (omega (arith, c .before .before .before .before .known-told .given)) (omega (arith, c .before .before .before .before .known-told .given)))
+    (text-refused _ (c .before .before .before .before .before .before .before .before .before .before .before .before .before .before .before .before .before .before .pre .0) (c .before .before .before .before .before .before .before .before .before .read .ensures) _ _ _ _ _ (c .before .before .before .before .before .number .given .1))
 
 same-length-3 : tie.Need-same-length-3
 same-length-3 c = search needs
@@ -55,7 +59,7 @@ same-length-8 : tie.Need-same-length-8
 same-length-8 c = search needs
 
 returns-2 : tie.Need-returns-2
-returns-2 c = written-as _ (c .before .before .before .before .before .before .before .before .before .before .run .ensures) (text-script _ (c .before .before .before .before .before .before .before .before .before .before .before .before .before .before .before .before .before .before .before .before .before .before .before .before .before .before .before .before .before .before .before .pre .0) (c .before .before .before .before .before .before .before .before .before .before .before .before .before .before .before .before .before .before .before .before .before .before .read .ensures) _ _ (c .before .before .before .before .before .before .before .before .before .before .before .before .before .before .before .before .before .before .cells .given .1) _ _ _)
+returns-2 c = printed-as _ (c .before .before .before .before .before .before .before .before .before .before .run .ensures) (text-script _ (c .before .before .before .before .before .before .before .before .before .before .before .before .before .before .before .before .before .before .before .before .before .before .before .before .before .before .before .before .before .before .before .pre .0) (c .before .before .before .before .before .before .before .before .before .before .before .before .before .before .before .before .before .before .before .before .before .before .read .ensures) _ _ (c .before .before .before .before .before .before .before .before .before .before .before .before .before .before .before .before .before .before .cells .given .1) _ _ _)
 
 pub answer-spec : {M : Type 1} → statement M
 answer-spec =

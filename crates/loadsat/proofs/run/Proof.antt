@@ -1,7 +1,8 @@
 use Rattle.text.specs.Format.{record-lines}
 use mathlib.Core.Path.{ap, _∙_}
-use Rattle.text.specs.WriteLaws.{written-as}
-use Rattle.loadsat.specs.Laws.{run-refused, run-ran}
+use native.Mathlib.Omega.{arith}
+use Rattle.text.specs.PrintBound.{printed-length, refusal-length}
+use Rattle.loadsat.specs.Laws.{small, no-longer, whole, run-refused, run-ran}
 use borrow.Author.Needs.{needs}
 use Rattle.loadsat.proofs.run.Statement.{statement}
 use Rattle.loadsat.proofs.run.Tie as tie
@@ -37,7 +38,9 @@ same-length-4 : tie.Need-same-length-4
 same-length-4 c = search needs
 
 returns : tie.Need-returns
-returns c = written-as _ (c .before .before .print-refusal .ensures) (run-refused (c .before .before .before .before .before .before .before .before .before .before .before .before .before .run .ensures) _ _ (c .before .before .before .before .before .number .given .1))
+returns c =
+    whole _ (c .before .before .before .before .before .before .before .before .before .before .before .before .before .before .before .before .before .before .before .before .before .before .before .pre .1 .2) (c .before .before .print-refusal .ensures) (refusal-length _ _ (omega (arith, c .before .before .before .before .known-told .given)) (omega (arith, c .before .before .before .before .known-told .given)))
+    (run-refused (c .before .before .before .before .before .before .before .before .before .before .before .before .before .run .ensures) _ _ (c .before .before .before .before .before .number .given .1))
 
 same-length-5 : tie.Need-same-length-5
 same-length-5 c = search needs
@@ -56,7 +59,9 @@ same-length-9 c = search needs
 
 returns-2 : tie.Need-returns-2
 returns-2 c =
-    written-as _ (c .before .before .print .ensures) (run-ran (c .before .before .before .before .before .before .before .before .before .before .before .before .before .before .before .before .before .before .run .ensures) _ _ (c .before .before .before .before .before .before .before .before .before .before .enum-told .given .1) (c .before .before .before .before .before .before .before .before .number-lines .ensures ∙ ap record-lines (c .before .before .before .before .before .before .before .before .before .before .before .before .before .before .before .before .before .before .before .before .before .before .before .before .before .before .before .before .pre)))
+    let fits = printed-length _ _ _ (small _ (c .before .before .before .before .before .before .slice-known10 .given)) (small _ (c .before .before .before .before .before .before .before .before .before .before .before .before .slice-known8 .given)) (c .before .before .before .before .before .before .before .before .before .before .before .before .before .before .before .before .before .before .before .before .before .before .before .before .before .before .before .before .pre .1 .0) (no-longer (c .before .before .before .before .before .before .before .before .before .before .before .before .before .before .before .before .before .before .run .kept .1 .1 .1 .0) (c .before .before .before .before .before .before .before .before .before .before .before .before .before .before .before .before .before .before .before .before .before .before .before .before .before .before .before .before .pre .1 .1)) in
+    whole _ (c .before .before .before .before .before .before .before .before .before .before .before .before .before .before .before .before .before .before .before .before .before .before .before .before .before .before .before .before .pre .1 .2) (c .before .before .print .ensures) fits
+    (run-ran (c .before .before .before .before .before .before .before .before .before .before .before .before .before .before .before .before .before .before .run .ensures) _ _ (c .before .before .before .before .before .before .before .before .before .before .enum-told .given .1) (c .before .before .before .before .before .before .before .before .number-lines .ensures ∙ ap record-lines (c .before .before .before .before .before .before .before .before .before .before .before .before .before .before .before .before .before .before .before .before .before .before .before .before .before .before .before .before .pre .0)))
 
 pub run-spec : {M : Type 1} → statement M
 run-spec =

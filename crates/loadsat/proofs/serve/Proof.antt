@@ -1,5 +1,5 @@
 use mathlib.Core.Path.{sym}
-use native.Mathlib.Omega.{arith}
+use Rattle.loadsat.specs.Laws.{printed-in}
 use lib.Seq.{length-take-le}
 use borrow.Author.Needs.{needs}
 use Rattle.loadsat.proofs.serve.Statement.{statement}
@@ -18,10 +18,10 @@ bench-requires : tie.Need-bench-requires
 bench-requires c κs = search needs
 
 slice-reshare-prefix-write-all : tie.Need-slice-reshare-prefix-write-all
-slice-reshare-prefix-write-all c = search needs
+slice-reshare-prefix-write-all c = printed-in (c .before .before .bench .ensures)
 
 slice-aggregate-write-all : tie.Need-slice-aggregate-write-all
-slice-aggregate-write-all c = sym (length-take-le _ _ (omega (arith, c .before .before .before .bench .ensures)))
+slice-aggregate-write-all c = sym (length-take-le _ _ (printed-in (c .before .before .before .bench .ensures)))
 
 write-all-requires : tie.Need-write-all-requires
 write-all-requires c κs = search needs

@@ -2,11 +2,11 @@
 """Makes and checks the files of vectors/, and states the small ones over the definition.
 
   tools/vectors.py ORACLE             write vectors/*.txt; ORACLE is the program of docs/oracle/build
-  tools/vectors.py --check [ORACLE]   run tools/reading.py, and ORACLE if given, over vectors/*.txt
+  tools/vectors.py --check [ORACLE]   run tools/reading.py, and ORACLE if given, over vectors/*.txt, and see that crates/replay has them
   tools/vectors.py --random N SEED ORACLE
                                       compare ORACLE and tools/reading.py on N random scripts
   tools/vectors.py --antt DIR         write DIR/specs/*.antt and DIR/src/lib.rt from vectors/*.txt
-  tools/vectors.py --replay DIR       write DIR/stdin and DIR/stdout, for the program crates/replay, from vectors/*.txt
+  tools/vectors.py --replay           write crates/replay/stdin and stdout from vectors/*.txt
 
 Cells in oracle.txt come from the oracle. Those in storage.txt and refusals.txt, of which the oracle
 knows nothing, stand in tools/cases.py beside their sentence of document 01. Nothing is written where
@@ -25,6 +25,7 @@ import reading
 
 HERE = os.path.dirname(os.path.abspath(__file__))
 VECTORS = os.path.join(HERE, "..", "vectors")
+REPLAY = os.path.join(HERE, "..", "crates", "replay")
 SEED = 809
 UNITS = (1, 2, 5, 100)
 
@@ -440,6 +441,10 @@ def check(program):
     lines += [("storage", *fields) for _, _, fields in read_file("storage")]
     lines += [("refusals", name, lengths + " | " + cells, expected)
               for _, _, (name, lengths, cells, expected) in read_file("refusals")]
+    for name, text in zip(("stdin", "stdout"), replay_files()):
+        if open(os.path.join(REPLAY, name), encoding="utf-8").read() != text:
+            wrong += 1
+            print("crates/replay/%s is not what the generator makes" % name)
     rescales = 0
     for file, name, text, expected in lines:
         got, state = reading.answer(text)
@@ -557,11 +562,11 @@ def antt(folder):
 
 # ---- for the program crates/replay
 
-MOST_REPLAYED = 16384 - 6  # the script and out cells that its slice has room for
+MOST_REPLAYED = 16384 - 6  # the script and out cells that its slice has room for; bindings/ runs the refusals that are longer
 
 
 def replay_lines(file):
-    """The groups of a file, each with the lines of its scripts; those too long for the program are left to bindings/."""
+    """The groups of a file, each with the lines of its scripts."""
     made = {}
     for group, _, (name, *lengths, script_cells, expected) in read_file(file):
         cells = reading.cells(script_cells)
@@ -589,9 +594,9 @@ def replay_files():
     return text, "".join("%s: %d passed, 0 failed\n" % each for each in counts)
 
 
-def replay(folder):
+def replay():
     for name, text in zip(("stdin", "stdout"), replay_files()):
-        with open(os.path.join(folder, name), "w", encoding="utf-8") as file:
+        with open(os.path.join(REPLAY, name), "w", encoding="utf-8") as file:
             file.write(text)
 
 
@@ -602,8 +607,8 @@ def main(words):
         compare(int(words[1]), int(words[2]), words[3])
     elif words[:1] == ["--antt"] and len(words) == 2:
         antt(words[1])
-    elif words[:1] == ["--replay"] and len(words) == 2:
-        replay(words[1])
+    elif words == ["--replay"]:
+        replay()
     elif len(words) == 1 and not words[0].startswith("-"):
         write(words[0])
     else:

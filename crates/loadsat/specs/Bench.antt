@@ -5,8 +5,7 @@ use mathlib.Core.List.{List, _++_}
 use lib.ListN.{length, drop, replicate}
 use lib.Ieee.{Float}
 use Rattle.model.specs.State.{f64-zero}
-use Rattle.model.specs.Run.{After, turned-back, ran}
-use Rattle.engine.specs.Promise.{after}
+use Rattle.model.specs.Run.{After, turned-back, ran, after}
 use Rattle.text.specs.Limits.{max-cells}
 use Rattle.text.specs.Format.{Reading, refused, script, read-text, record-lines}
 use Rattle.text.specs.Answers.{printed-refusal, printed}

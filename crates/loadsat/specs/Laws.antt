@@ -9,8 +9,8 @@ use mir.Val.{Fits}
 use mir.Syntax.{w32}
 use lib.Ieee.{Float}
 use lib.Seq.{take-at, sets-eq, length-take-le}
-use Rattle.model.specs.Run.{After, turned-back, ran}
-use Rattle.engine.specs.Promise.{after, answer-of, Runs}
+use Rattle.model.specs.Run.{After, turned-back, ran, after}
+use Rattle.engine.specs.Runs.{answer-of, Runs}
 use Rattle.engine.specs.declared.Answer as engine
 use Rattle.engine.specs.declared.Answer.the-variants as engine-answer
 use Rattle.text.specs.Limits.{max-bytes, max-cells}
@@ -59,7 +59,7 @@ answered-ran : (cells : List ℕ) (x : After) (n : ℕ) → ran n ≡ x .answer 
 unfolding answered
 answered-ran cells x n e = rw (← e, answered)
 
-module _ {s w : List ℕ} {a : List Float} {o w′ : List ℕ} {a′ : List Float} {o′ : List ℕ} {r : engine.Answer} (p : Runs s w a o w′ a′ o′ r) where
+module _ {s w : List ℕ} {a : List Float} {o w′ : List ℕ} {a′ : List Float} {o′ : List ℕ} {r : engine.Answer} (p : Runs s w a o r w′ a′ o′) where
   pub run-refused : (number place : ℕ) → r ≡ engine-answer.Refused number place → printed-refusal number place ≡ answered s (after s w a o)
   run-refused number place e = sym (answered-refused s (after s w a o) number place (sym (ap answer-of e) ∙ p .answer))
 

@@ -2,7 +2,7 @@
 ghost use Prim.Native.Nat.{_≤_, _<_};
 ghost use mathlib.Core.Path.{_≡_};
 ghost use lib.ListN.{length};
-ghost use Rattle.engine.specs.Promise.{after};
+ghost use Rattle.model.specs.Run.{after};
 ghost use Rattle.text.specs.Limits.{max-cells, max-bytes};
 ghost use Rattle.text.specs.Format.{read-text};
 ghost use Rattle.loadsat.specs.Bench.{answered, shown, output, Printed};

@@ -1,7 +1,7 @@
 /* The SAT engine as C sees it. docs/FORMAT.md says what a script and its answers are; this page says how to call.
  *
  * Link target/staticlib/libengine.a (x86-64 Linux, `rt staticlib engine`). It allocates nothing, keeps nothing between calls, reads no file and calls
- * nothing, so calls on different slices may run at the same time.
+ * nothing but C's memset, so calls on different slices may run at the same time.
  *
  * Slices. A slice is two arguments: a pointer to its first element and how many elements it has (not bytes). What the caller owes, and no proof can see:
  *   - the pointer is not null and is aligned for its type, also where the length is 0, and that many elements can be read (and written, if not const);

@@ -364,38 +364,33 @@ def oracle_text(program, compared=True):
     return "\n".join(text) + "\n"
 
 
-def storage_text():
-    text = [
-        "# Scripts that are short of storage, or just not.",
-        "# A line: name | script cells | out cells. Above each: why, and before that, for it and those that follow,",
-        "# the sentence of document 01 they come from.",
-        "# Made by: tools/vectors.py from tools/cases.py. %d scripts." % len(cases.STORAGE),
-    ]
-    last = None
-    for name, sentence, why, cells, expected in cases.STORAGE:
+def told(head, rows):
+    """The text of rows (name, sentence of document 01, why, cells, expected), each tried on the reading."""
+    text, last = head + ["# Made by: tools/vectors.py from tools/cases.py. %d scripts." % len(rows)], None
+    for name, sentence, why, cells, expected in rows:
         if reading.answer(cells)[0] != expected:
             fail("%s: document 01 is read differently" % name)
         text += ["", '# "%s"' % sentence] if sentence != last else []
         last = sentence
-        text += ["# " + why, "%s | %s | %s" % (name, cells, expected)]
+        text += ["# " + why] if why else []
+        text.append(("%s | %s | %s" % (name, cells, expected)).rstrip())
     return "\n".join(text) + "\n"
+
+
+def storage_text():
+    return told([
+        "# Scripts that are short of storage, or just not.",
+        "# A line: name | script cells | out cells. Above each: why, and before that, for it and those that follow,",
+        "# the sentence of document 01 they come from.",
+    ], cases.STORAGE)
 
 
 def refusals_text():
-    text = [
+    return told([
         "# Scripts that are turned back, and those just inside the boundary.",
         "# A line: name | lengths of work, activities, out | script cells | refused NUMBER PLACE, or the out cells.",
         "# {N: cells} stands for the cells N times over. Above them: the row or sentence of document 01.",
-        "# Made by: tools/vectors.py from tools/cases.py. %d scripts." % len(cases.REFUSALS),
-    ]
-    last = None
-    for name, sentence, lengths, cells, expected in cases.REFUSALS:
-        if reading.answer(lengths + " | " + cells)[0] != expected:
-            fail("%s: document 01 is read differently" % name)
-        text += ["", '# "%s"' % sentence] if sentence != last else []
-        last = sentence
-        text.append(("%s | %s | %s | %s" % (name, lengths, cells, expected)).rstrip())
-    return "\n".join(text) + "\n"
+    ], [(name, sentence, "", lengths + " | " + cells, expected) for name, sentence, lengths, cells, expected in cases.REFUSALS])
 
 
 def path(name):

@@ -4,7 +4,7 @@ use native.Mathlib.Omega.{arith}
 use mathlib.Core.Path.{_≡_, refl, sym, ap, ap₂, _∙_}
 use mathlib.Core.Bool.{Bool, true, false}
 use mathlib.Core.List.{List, [], _++_}
-use lib.ListN.{length, getD, take, drop, length-append, length-take, length-drop}
+use lib.ListN.{length, getD, take, drop}
 use lib.Seq.{take-take}
 use lib.Dec.{ltb}
 use borrow.Author.Tests.{lt-ltb, le-ltb}
@@ -19,12 +19,9 @@ use Rattle.trail.specs.Back.{after-until}
 use Rattle.trail.specs.declared.TrailHead.{TrailHead}
 use Rattle.state.specs.declared.Sizes.{Sizes}
 use Rattle.state.specs.declared.Header.{Header}
-use Rattle.state.specs.View.{Whole, trail-size, shape, whole, Rep, Holds, with-assignment, state-of}
+use Rattle.state.specs.Lending.{came-back}
+use Rattle.state.specs.View.{Whole, trail-size, shape, used, whole, Rep, Holds, with-assignment, state-of}
 use Rattle.state.specs.Laws.{lent, back, with-trail, trail-back}
-
--- a part that came back as long as it was
-pub back-length : (w ys : List ℕ) (a e : ℕ) → e ≤ length w → length ys ≡ length (take (e - a) (drop a w)) → length (take a w ++ (ys ++ drop (e - a) (drop a w))) ≡ length w
-back-length w ys a e b l = simp (length-append, l, length-take, length-drop) (omega arith)
 
 abbrev pub counts : ℕ → ℕ → TrailHead
 counts m n = record { assigned = m; levels = n }
@@ -137,7 +134,7 @@ module _ {d : Sizes} {h : Header} {w : List ℕ} (r : Rep d h w) where
       → Holds d (with-trail h v) (take 0 w ++ (ys ++ drop (8 * d .vars - 0) (drop 0 w))) (with-assignment (whole d h w) (f (whole d h w .assignment)))
   trail-left f v ys l k =
       let fits : base 0 (shape d) + getD (shape d) 0 0 ≤ length w = omega (arith, r .room .fits) in
-      trail-back d h w _ ys r (back-length w ys 0 (8 * d .vars) (omega arith) l) v
+      trail-back d h w _ ys r (came-back (used d) w ys 0 (8 * d .vars) (omega arith) (omega arith) (r .room .fits) l) v
       (back d w 0 0 (8 * d .vars) (omega arith) (omega arith) (omega arith) ys fits (r .room) l)
       (rw (trail-view (trail-lent d w)) at k)
 

@@ -15,9 +15,9 @@ use Rattle.store.specs.declared.StoreHead.{StoreHead}
 use Rattle.store.specs.declared.StoreSize.{StoreSize}
 use Rattle.state.specs.declared.Sizes.{Sizes}
 use Rattle.state.specs.declared.Header.{Header}
-use Rattle.state.specs.View.{shape, store-size, whole, with-clauses, Rep, Holds}
+use Rattle.state.specs.View.{shape, used, store-size, whole, with-clauses, Rep, Holds}
 use Rattle.state.specs.Laws.{lent, back, with-store, store-back}
-use Rattle.state.specs.Lending.{same-size}
+use Rattle.state.specs.Lending.{came-back}
 
 abbrev pub counted : ℕ → ℕ → ℕ → StoreHead
 counted m l n = record { clauses = m; literals = l; pushed = n }
@@ -74,7 +74,7 @@ module _ (d : Sizes) (h : Header) (w : List ℕ) (r : Rep d h w) where
         → Holds d (with-store h v) w (with-clauses (whole d h w) (f (whole d h w .clauses)))
     store-kept f v k =
         let k′ : sv.Holds (store-size d) v b (f (whole d h w .clauses)) = rw (store-view, es) at k in
-        store-back d h w w b r refl v (rw eb (sym (set-getD (split (shape d) w) 3 []))) k′
+        store-back d h w w b r (record { size = refl; behind = refl }) v (rw eb (sym (set-getD (split (shape d) w) 3 []))) k′
 
   -- a function that leaves ys in the part from a to e
   module _ (s : StoreSize) (a e : ℕ) (es : s ≡ store-size d) (ha : a ≡ base 3 (shape d)) (he : e ≡ base 3 (shape d) + getD (shape d) 3 0) where
@@ -87,4 +87,4 @@ module _ (d : Sizes) (h : Header) (w : List ℕ) (r : Rep d h w) where
     store-returns f v ys n k =
         let k′ : sv.Holds (store-size d) v ys (f (whole d h w .clauses)) = rw (store-view s (take (e - a) (drop a w)) es store-part, es) at k in
         let fits : base 3 (shape d) + getD (shape d) 3 0 ≤ length w = omega (arith, r .room .fits) in
-        store-back d h w _ ys r (same-size w ys a e n) v (back d w 3 a e (omega arith) ha he ys fits (r .room) n) k′
+        store-back d h w _ ys r (came-back (used d) w ys a e (omega arith) (omega arith) (r .room .fits) n) v (back d w 3 a e (omega arith) ha he ys fits (r .room) n) k′

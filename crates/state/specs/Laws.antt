@@ -1,7 +1,7 @@
 -- The blocks of work, as they are lent and as they come back.
 use Prim.Native.Nat.{ℕ, zero, suc, _+_, _-_, _*_, _≤_, _<_}
 use native.Mathlib.Omega.{arith}
-use mathlib.Core.Path.{_≡_, refl, sym, ap, subst, _∙_}
+use mathlib.Core.Path.{_≡_, refl, sym, ap, ap₂, subst, _∙_}
 use mathlib.Core.List.{List, [], _∷_, _++_}
 use lib.ListN.{length, getD, set, take, drop}
 use Rattle.region.specs.Split.{split, base}
@@ -20,7 +20,8 @@ use Rattle.litset.specs.View as lv
 use Rattle.litset.specs.declared.Head.{Head}
 use Rattle.state.specs.declared.Sizes.{Sizes}
 use Rattle.state.specs.declared.Header.{Header}
-use Rattle.state.specs.View.{Whole, trail-size, scratch-size, lists-size, store-size, final-size, shape, pack, whole, Room, Blocks, Rep, Holds, with-assignment, with-scratch, with-watches, with-clauses, with-final}
+use Rattle.state.specs.Lending.{Outside}
+use Rattle.state.specs.View.{Whole, trail-size, scratch-size, lists-size, store-size, final-size, shape, used, pack, whole, Room, Blocks, Rep, Holds, with-assignment, with-scratch, with-watches, with-clauses, with-final}
 
 -- block k, as the code lends it from a to e
 module _ (d : Sizes) (w : List ℕ) (k a e : ℕ) (g : k < 5) (ha : a ≡ base k (shape d)) (he : e ≡ base k (shape d) + getD (shape d) k 0) where
@@ -48,11 +49,11 @@ abbrev pub with-final-head : Header → Head → Header
 with-final-head h t = record { trail = h .trail; store = h .store; finals = t; qhead = h .qhead; ok = h .ok }
 
 -- the whole when a block is back
-module _ (d : Sizes) (h : Header) (w w′ ys : List ℕ) (r : Rep d h w) (same : length w′ ≡ length w) where
+module _ (d : Sizes) (h : Header) (w w′ ys : List ℕ) (r : Rep d h w) (same : Outside (used d) w w′) where
   held : (h′ : Header) (k : ℕ) (x : Whole) → split (shape d) w′ ≡ set (split (shape d) w) k ys → Blocks d h′ (set (split (shape d) w) k ys)
-      → pack d h′ (set (split (shape d) w) k ys) ≡ x → Holds d h′ w′ x
+      → pack d h′ (set (split (shape d) w) k ys) (drop (used d) w) ≡ x → Holds d h′ w′ x
   unfolding whole
-  held h′ k x e b q = record { rep = record { room = rw same (r .room); blocks = subst (Blocks d h′) (sym e) b }; whole = ap (pack d h′) e ∙ q }
+  held h′ k x e b q = record { rep = record { room = rw (same .size) (r .room); blocks = subst (Blocks d h′) (sym e) b }; whole = ap₂ (pack d h′) e (same .behind) ∙ q }
 
   pub trail-back : (v : TrailHead) {s : Assignment} → split (shape d) w′ ≡ set (split (shape d) w) 0 ys → tv.Holds (trail-size d) v ys s
       → Holds d (with-trail h v) w′ (with-assignment (whole d h w) s)

@@ -16,9 +16,9 @@ use Rattle.litset.specs.declared.Head.{Head}
 use Rattle.litset.specs.declared.Size.{Size}
 use Rattle.state.specs.declared.Sizes.{Sizes}
 use Rattle.state.specs.declared.Header.{Header}
-use Rattle.state.specs.View.{Whole, scratch-size, final-size, shape, whole, Rep, Holds, with-scratch, with-final, state-of}
+use Rattle.state.specs.View.{Whole, scratch-size, final-size, shape, used, whole, Rep, Holds, with-scratch, with-final, state-of}
 use Rattle.state.specs.Laws.{lent, back, scratch-back, final-back, with-final-head}
-use Rattle.state.specs.AssignmentLaws.{back-length}
+use Rattle.state.specs.Lending.{came-back}
 
 abbrev pub members : ℕ → Head
 members n = record { count = n }
@@ -71,7 +71,7 @@ module _ {d : Sizes} {h : Header} {w : List ℕ} (r : Rep d h w) where
       → Holds d h (take (8 * d .vars) w ++ (ys ++ drop (13 * d .vars - 8 * d .vars) (drop (8 * d .vars) w))) (with-scratch (whole d h w) (f (whole d h w .scratch)))
   scratch-left f ys l k =
       let fits : base 1 (shape d) + getD (shape d) 1 0 ≤ length w = omega (arith, r .room .fits) in
-      scratch-back d h w _ ys r (back-length w ys (8 * d .vars) (13 * d .vars) (omega arith) l)
+      scratch-back d h w _ ys r (came-back (used d) w ys (8 * d .vars) (13 * d .vars) (omega arith) (omega arith) (r .room .fits) l)
       (back d w 1 (8 * d .vars) (13 * d .vars) (omega arith) (omega arith) (omega arith) ys fits (r .room) l)
       (rw (scratch-view (scratch-lent d w)) at k)
 
@@ -108,6 +108,6 @@ module _ {d : Sizes} {h : Header} {w : List ℕ} (r : Rep d h w) where
     final-left f v ys e l k =
         let fits : base 4 (shape d) + getD (shape d) 4 0 ≤ length w = omega (arith, r .room .fits) in
         let k′ : lv.Holds (final-size d) v ys (f (whole d h w .final)) = rw (final-view e final-lent, e) at k in (
-          final-back d h w _ ys r (back-length w ys a b (omega arith) l) v (back d w 4 a b (omega arith) ha hb ys fits (r .room) l) k′,
+          final-back d h w _ ys r (came-back (used d) w ys a b (omega arith) (omega arith) (r .room .fits) l) v (back d w 4 a b (omega arith) ha hb ys fits (r .room) l) k′,
           ap (λ (n : ℕ). with-final-head h (members n)) (sym (view-length (final-size d) v ys (k′ .rep .room)) ∙ ap length (k′ .view)),
         )

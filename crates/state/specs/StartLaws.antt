@@ -24,14 +24,14 @@ use Rattle.litset.specs.View as lv
 use Rattle.litset.specs.declared.Head.{Head}
 use Rattle.state.specs.declared.Sizes.{Sizes}
 use Rattle.state.specs.declared.Header.{Header}
-use Rattle.state.specs.View.{Whole, shape, trail-size, scratch-size, lists-size, store-size, final-size, pack, whole, state-of, Room, Blocks, Rep}
+use Rattle.state.specs.View.{Whole, shape, used, trail-size, scratch-size, lists-size, store-size, final-size, pack, whole, state-of, Room, Blocks, Rep}
 use Rattle.state.specs.Laws.{lent, back}
-use Rattle.state.specs.Lending.{same-size}
+use Rattle.state.specs.Lending.{Outside, came-back}
 use Rattle.state.specs.Fresh.{Fresh}
 
 -- block k was filled, and is as P says
 pub record Filled (d : Sizes) (w w′ : List ℕ) (k : ℕ) (P : List ℕ → Type 0) : Type 0 where
-  pub size : length w′ ≡ length w
+  pub outside : Outside (used d) w w′
   pub block : List ℕ
   pub parts : split (shape d) w′ ≡ set (split (shape d) w) k block
   pub holds : P block
@@ -58,12 +58,12 @@ pub record Started (d : Sizes) (r : Header) (w : List ℕ) : Type 0 where
 
 -- block k, lent from a to e
 module _ (d : Sizes) (w : List ℕ) (r : Room d (length w)) (k a e : ℕ) (g : k < 5) (ha : a ≡ base k (shape d)) (he : e ≡ base k (shape d) + getD (shape d) k 0)
-    (fits : base k (shape d) + getD (shape d) k 0 ≤ length w) where
+    (fits : base k (shape d) + getD (shape d) k 0 ≤ used d) where
   pub part-size : length (take (e - a) (drop a w)) ≡ getD (shape d) k 0
   part-size = ap length (lent d w k a e g ha he) ∙ split-length (shape d) w k g (r .fits)
 
   pub filled : (P : List ℕ → Type 0) (ys : List ℕ) → length ys ≡ length (take (e - a) (drop a w)) → P ys → Filled d w (take a w ++ (ys ++ drop (e - a) (drop a w))) k P
-  filled P ys n p = record { size = same-size w ys a e n; block = ys; parts = back d w k a e g ha he ys fits r n; holds = p }
+  filled P ys n p = record { outside = came-back (used d) w ys a e (omega arith) (omega arith) (r .fits) n; block = ys; parts = back d w k a e g ha he ys (omega (arith, r .fits)) r n; holds = p }
 
 pub unmarked-is : (d : Sizes) (b ys : List ℕ) → xv.Holds (scratch-size d) ys (xv.unmarked (d .vars) (xv.view (scratch-size d) b)) → Unmarked d ys
 unmarked-is d b ys k = record { room = k .room; marks = ap (λ (s : xv.Scratch). s .marks) (k .view) }
@@ -88,18 +88,18 @@ module _ (d : Sizes) (t : TrailHead) (s : StoreHead) (f : Head) (ps : List (List
     all-blocks : Blocks d first-head ps
     all-blocks = record { trail = trail .rep; scratch = scratch .room; watch = watches .rep; store = store .rep; final = final .rep }
 
-    first-state : state-of first-head (pack d first-head ps) ≡ initial-state (d .vars)
+    first-state : (rest : List ℕ) → state-of first-head (pack d first-head ps rest) ≡ initial-state (d .vars)
     unfolding initial-state
-    first-state = rw (trail .view, store .view, watches .watches)
+    first-state rest = rw (trail .view, store .view, watches .watches)
 
     pub all-filled : (w : List ℕ) → Room d (length w) → split (shape d) w ≡ ps → Started d first-head w
     unfolding whole
     all-filled w room e =
-        let same : whole d first-head w ≡ pack d first-head ps = ap (pack d first-head) e in
+        let same : whole d first-head w ≡ pack d first-head ps (drop (used d) w) = ap (λ (qs : List (List ℕ)). pack d first-head qs (drop (used d) w)) e in
         let none : sv.view (store-size d) s (getD ps 3 []) ≡ no-clauses = store .view in
         record {
           rep = record { room = room; blocks = subst (Blocks d first-head) (sym e) all-blocks };
-          state = ap (state-of first-head) same ∙ first-state;
+          state = ap (state-of first-head) same ∙ first-state (drop (used d) w);
           marks = ap (λ (x : Whole). x .scratch .marks) same ∙ scratch .marks;
           lists = ap (λ (x : Whole). x .watches .lists) same ∙ watches .lists;
           pushed = ap (λ (x : Whole). x .clauses .pushed) same ∙ ap (λ (x : Clauses). x .pushed) none;
@@ -115,12 +115,16 @@ pub started : (d : Sizes) (w w₁ w₂ w₃ w₄ w₅ : List ℕ) (t : TrailHead
     → Filled d w₄ w₅ 4 (λ b. lv.Holds (final-size d) f b [])
     → Started d (record { trail = t; store = s; finals = f; qhead = 0; ok = true }) w₅
 started d w w₁ w₂ w₃ w₄ w₅ t s f room a b c e g =
-    let size : length w₅ ≡ length w = g .size ∙ e .size ∙ c .size ∙ b .size ∙ a .size in
+    let size : length w₅ ≡ length w = g .outside .size ∙ e .outside .size ∙ c .outside .size ∙ b .outside .size ∙ a .outside .size in
     let parts : split (shape d) w₅ ≡ a .block ∷ b .block ∷ c .block ∷ e .block ∷ g .block ∷ [] =
     g .parts
     ∙ ap (λ (ps : List (List ℕ)). set ps 4 (g .block)) (e .parts ∙ ap (λ (ps : List (List ℕ)). set ps 3 (e .block)) (c .parts ∙ ap (λ (ps : List (List ℕ)). set ps 2 (c .block)) (b .parts ∙ ap (λ (ps : List (List ℕ)). set ps 1 (b .block)) (a .parts))))
     in
     all-filled d t s f (a .block ∷ b .block ∷ c .block ∷ e .block ∷ g .block ∷ []) (a .holds) (b .holds) (c .holds) (e .holds) (g .holds) w₅ (rw size room) parts
+
+pub started-behind : {d : Sizes} {w w₁ w₂ w₃ w₄ w₅ : List ℕ} {P Q R S T : List ℕ → Type 0} → Filled d w w₁ 0 P → Filled d w₁ w₂ 1 Q → Filled d w₂ w₃ 2 R → Filled d w₃ w₄ 3 S → Filled d w₄ w₅ 4 T
+    → drop (used d) w₅ ≡ drop (used d) w
+started-behind a b c e g = g .outside .behind ∙ e .outside .behind ∙ c .outside .behind ∙ b .outside .behind ∙ a .outside .behind
 
 -- ---- every cell 0
 

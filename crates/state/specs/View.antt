@@ -2,7 +2,7 @@
 use Prim.Native.Nat.{ℕ, _+_, _*_, _≤_}
 use mathlib.Core.Path.{_≡_}
 use mathlib.Core.List.{List, [], _∷_}
-use lib.ListN.{length, getD, replicate}
+use lib.ListN.{length, getD, drop, replicate}
 use Rattle.region.specs.Split.{split, total}
 use Rattle.model.specs.State.{State}
 use Rattle.trail.specs.View as tv
@@ -23,28 +23,29 @@ use Rattle.litset.specs.declared.Size.{Size}
 use Rattle.state.specs.declared.Sizes.{Sizes}
 use Rattle.state.specs.declared.Header.{Header}
 
--- what the blocks hold: the assignment, marks and buffers, the watch lists, the clauses, the final clause under way
+-- what the blocks hold: the assignment, marks and buffers, the watch lists, the clauses, the final clause under way; and the cells behind the blocks
 pub record Whole : Type 0 where
   pub assignment : Assignment
   pub scratch : Scratch
   pub watches : Watches
   pub clauses : Clauses
   pub final : List ℕ
+  pub behind : List ℕ
 
 abbrev pub with-assignment : Whole → Assignment → Whole
-with-assignment x a = record { assignment = a; scratch = x .scratch; watches = x .watches; clauses = x .clauses; final = x .final }
+with-assignment x a = record { assignment = a; scratch = x .scratch; watches = x .watches; clauses = x .clauses; final = x .final; behind = x .behind }
 
 abbrev pub with-scratch : Whole → Scratch → Whole
-with-scratch x a = record { assignment = x .assignment; scratch = a; watches = x .watches; clauses = x .clauses; final = x .final }
+with-scratch x a = record { assignment = x .assignment; scratch = a; watches = x .watches; clauses = x .clauses; final = x .final; behind = x .behind }
 
 abbrev pub with-watches : Whole → Watches → Whole
-with-watches x a = record { assignment = x .assignment; scratch = x .scratch; watches = a; clauses = x .clauses; final = x .final }
+with-watches x a = record { assignment = x .assignment; scratch = x .scratch; watches = a; clauses = x .clauses; final = x .final; behind = x .behind }
 
 abbrev pub with-clauses : Whole → Clauses → Whole
-with-clauses x a = record { assignment = x .assignment; scratch = x .scratch; watches = x .watches; clauses = a; final = x .final }
+with-clauses x a = record { assignment = x .assignment; scratch = x .scratch; watches = x .watches; clauses = a; final = x .final; behind = x .behind }
 
 abbrev pub with-final : Whole → List ℕ → Whole
-with-final x a = record { assignment = x .assignment; scratch = x .scratch; watches = x .watches; clauses = x .clauses; final = a }
+with-final x a = record { assignment = x .assignment; scratch = x .scratch; watches = x .watches; clauses = x .clauses; final = a; behind = x .behind }
 
 -- the definition's state
 abbrev pub state-of : Header → Whole → State
@@ -83,21 +84,26 @@ shape d =
     ∷ total (lv.shape (final-size d))
     ∷ []
 
-abbrev pub pack : Sizes → Header → List (List ℕ) → Whole
-pack d h ps =
+-- how many cells the blocks take
+abbrev pub used : Sizes → ℕ
+used d = total (shape d)
+
+abbrev pub pack : Sizes → Header → List (List ℕ) → List ℕ → Whole
+pack d h ps rest =
     record {
       assignment = tv.view (trail-size d) (h .trail) (getD ps 0 []);
       scratch = xv.view (scratch-size d) (getD ps 1 []);
       watches = wv.view (lists-size d) (getD ps 2 []);
       clauses = sv.view (store-size d) (h .store) (getD ps 3 []);
       final = lv.view (final-size d) (h .finals) (getD ps 4 []);
+      behind = rest;
     }
 
 unfoldable pub whole : Sizes → Header → List ℕ → Whole
-whole d h w = pack d h (split (shape d) w)
+whole d h w = pack d h (split (shape d) w) (drop (used d) w)
 
 pub record Room (d : Sizes) (n : ℕ) : Type 0 where
-  pub fits : total (shape d) ≤ n
+  pub fits : used d ≤ n
   pub some : 1 ≤ d .vars
   pub vars : d .vars ≤ 4096
   pub room : d .room ≤ 65535

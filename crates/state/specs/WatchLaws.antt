@@ -13,9 +13,9 @@ use Rattle.watch.specs.declared.Lists.{Lists}
 use Rattle.watch.specs.declared.Cursor.{Cursor}
 use Rattle.state.specs.declared.Sizes.{Sizes}
 use Rattle.state.specs.declared.Header.{Header}
-use Rattle.state.specs.View.{Whole, shape, lists-size, whole, with-watches, Rep, Holds}
+use Rattle.state.specs.View.{Whole, shape, used, lists-size, whole, with-watches, Rep, Holds}
 use Rattle.state.specs.Laws.{lent, back, watch-back}
-use Rattle.state.specs.Lending.{same-size}
+use Rattle.state.specs.Lending.{came-back}
 
 -- the node at the cursor c has gone to the list of m with the blocker b, and the cursor r is at the next
 pub record Gone (d : Sizes) (h : Header) (w′ : List ℕ) (l m b : ℕ) (x : Whole) (c r : Cursor) : Type 0 where
@@ -50,7 +50,7 @@ module _ (d : Sizes) (h : Header) (w : List ℕ) (r : Rep d h w) where
           → Holds d h (take a w ++ (ys ++ drop (e - a) (drop a w))) (with-watches (whole d h w) (f (whole d h w .watches)))
       lists-returns f k =
           let k′ : wv.Holds (lists-size d) ys (f (whole d h w .watches)) = rw (lists-view s (take (e - a) (drop a w)) es lists-part, es) at k in
-          watch-back d h w _ ys r (same-size w ys a e n) kept k′
+          watch-back d h w _ ys r (came-back (used d) w ys a e (omega arith) (omega arith) (r .room .fits) n) kept k′
 
       pub leave-returns : (l m b : ℕ) (c x : Cursor) → ww.Gone s ys l m b (wv.view s (take (e - a) (drop a w))) c x
           → Gone d h (take a w ++ (ys ++ drop (e - a) (drop a w))) l m b (whole d h w) c x

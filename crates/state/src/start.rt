@@ -2,13 +2,13 @@
 ghost use mathlib.Core.Path.{_≡_};
 ghost use mathlib.Core.List.{[]};
 ghost use Prim.Native.Nat.{_*_};
-ghost use lib.ListN.{length, replicate};
+ghost use lib.ListN.{length, drop, replicate};
 ghost use Rattle.trail.specs.View.{initial-assignment};
 ghost use Rattle.trail.specs.View as tv;
 ghost use Rattle.store.specs.View.{no-clauses};
 ghost use Rattle.store.specs.View as sv;
 ghost use Rattle.litset.specs.View as lv;
-ghost use Rattle.state.specs.View.{Room, trail-size, store-size, final-size};
+ghost use Rattle.state.specs.View.{Room, used, trail-size, store-size, final-size};
 ghost use Rattle.state.specs.StartLaws.{Filled, Unmarked, Unlisted, Started};
 use super::Header;
 use super::Sizes;
@@ -75,10 +75,11 @@ fn fill_final(d: Sizes, work: &mut [u32]) -> Head
     litset::start(Size { lits: n, room: m }, &mut work[a..e])
 }
 
-// No clause and nothing assigned, whatever stood in the slice.
+// No clause and nothing assigned, whatever stood in the slice; what stands behind the blocks stays.
 pub fn start(d: Sizes, work: &mut [u32]) -> Header
     requires { ⌜ Room d (length (now work)) ⌝ }
     ensures { λ r. ⌜ Started d r (now (work .exit)) ⌝ }
+    ensures { λ _. ⌜ drop (used d) (now (work .exit)) ≡ drop (used d) (now (work .entry)) ⌝ }
 {
     let t = fill_trail(d, work);
     fill_scratch(d, work);

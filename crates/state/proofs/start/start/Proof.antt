@@ -1,4 +1,4 @@
-use Rattle.state.specs.StartLaws.{started}
+use Rattle.state.specs.StartLaws.{started, started-behind}
 use borrow.Author.Needs.{needs}
 use Rattle.state.proofs.start.start.Statement.{statement}
 use Rattle.state.proofs.start.start.Tie as tie
@@ -23,8 +23,13 @@ same-length c = search needs
 
 returns : tie.Need-returns
 returns c =
-    let a = c .before .before .before .before .before .before .before .before .before .before .before .before .before .before .before .before .before .before .before .before .before .args in
-    started (a .d) (a .work .now) _ _ _ _ _ _ _ _ (c .before .before .before .before .before .before .before .before .before .before .before .before .before .before .before .before .before .before .before .before .before .pre) (c .before .before .before .before .before .before .before .before .before .before .before .before .before .before .before .before .before .before .fill-trail .ensures) (c .before .before .before .before .before .before .before .before .before .before .before .before .before .before .fill-scratch .ensures) (c .before .before .before .before .before .before .before .before .before .before .fill-watches .ensures) (c .before .before .before .before .before .before .fill-store .ensures) (c .before .before .fill-final .ensures)
+    let s = c .before .before .before .before .before .before .before .before .before .before .before .before .before .before .before .before .before .before .before .before .before in
+    let t = c .before .before .before .before .before .before .before .before .before .before .before .before .before .before .before .before .before .before .fill-trail .ensures in
+    let x = c .before .before .before .before .before .before .before .before .before .before .before .before .before .before .fill-scratch .ensures in
+    let l = c .before .before .before .before .before .before .before .before .before .before .fill-watches .ensures in
+    let k = c .before .before .before .before .before .before .fill-store .ensures in
+    let f = c .before .before .fill-final .ensures in
+    (started (s .args .d) (s .args .work .now) _ _ _ _ _ _ _ _ (s .pre) t x l k f, started-behind t x l k f)
 
 pub start-spec : {M : Type 1} → statement M
 start-spec =

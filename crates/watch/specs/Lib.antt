@@ -11,4 +11,3 @@ pub mod Uses
 pub mod Walk
 pub mod Cursors
 pub mod Steps
-pub mod Sweep

@@ -7,8 +7,6 @@ ghost use lib.ListN.{length, getD};
 ghost use Rattle.watch.specs.View.{Room, Laid, cells, with-head, with-tail, with-count, with-next, with-blocker};
 ghost use Rattle.watch.specs.View.{Rep, Holds, view, list-of, place, spot, Next, Free, Under, appended, attached, unlinked, moved, blocked, emptied};
 ghost use Rattle.watch.specs.Walk.{Stands, Gone};
-ghost use Rattle.watch.specs.Meaning.{as-watches};
-ghost use Rattle.watch.specs.Sweep.{swept, Sweeps};
 use clause::Lit;
 
 // How many lists, two for each variable, and how many nodes, two for each clause that can be stored.
@@ -320,33 +318,5 @@ pub fn leave(d: Lists, s: &mut [u32], l: Lit, c: Cursor, m: Lit, b: Lit) -> Curs
         prev: p,
         cur: y,
         left: n - 1,
-    }
-}
-
-// One node of a walk through the list of l: with an even blocker it goes to the list of m, else it stays.
-fn sweep_step(d: Lists, s: &mut [u32], l: Lit, m: Lit, c: Cursor) -> Cursor
-    requires { ⌜ Rep d (now s) ⌝ }
-    requires { ⌜ (l .0 < d .slots) × (m .0 < d .slots) × (l .0 ≡ m .0 → ⊥) ⌝ }
-    requires { ⌜ Stands c (list-of (view d (now s)) (l .0)) × (0 < c .left) ⌝ }
-    ensures { λ r. ⌜ Sweeps d (now (s .entry)) (now (s .exit)) (l .0) (m .0) c r ⌝ }
-{
-    let x = c.cur;
-    let b = blocker(d, s, x);
-    if b.0 % 2 == 0 {
-        leave(d, s, l, c, m, b)
-    } else {
-        stay(d, s, l, c)
-    }
-}
-
-// Walks the list of l: a node with an even blocker goes to the list of m, any other stays.
-pub fn sweep(d: Lists, s: &mut [u32], l: Lit, m: Lit)
-    requires { ⌜ Rep d (now s) ⌝ }
-    requires { ⌜ (l .0 < d .slots) × (m .0 < d .slots) × (l .0 ≡ m .0 → ⊥) ⌝ }
-    ensures { λ _. ⌜ Rep d (now (s .exit)) × (as-watches (view d (now (s .exit))) ≡ swept (l .0) (m .0) (as-watches (view d (now (s .entry))))) ⌝ }
-{
-    let mut c = walk(d, s, l);
-    while 0 < c.left {
-        c = sweep_step(d, s, l, m, c);
     }
 }

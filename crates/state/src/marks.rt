@@ -178,16 +178,6 @@ pub fn final_len(d: Sizes, h: Header, work: &[u32]) -> usize
     h.finals.count
 }
 
-// Literal i of the final clause.
-pub fn final_at(d: Sizes, h: Header, work: &[u32], i: usize) -> Lit
-    requires { ⌜ Rep d h (now work) ⌝ }
-    requires { ⌜ i < h .finals .count ⌝ }
-    ensures { λ r. ⌜ r .0 ≡ getD (whole d h (now (work .entry)) .final) i 0 ⌝ }
-{
-    let f = h.finals;
-    litset::at(final_size(d), f, final_block(d, work), i)
-}
-
 // The literals of the final clause, as a part of the slice.
 pub fn final_items(d: Sizes, h: Header, work: &[u32]) -> &[u32]
     requires { ⌜ Rep d h (now work) ⌝ }

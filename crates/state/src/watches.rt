@@ -4,7 +4,7 @@ ghost use mathlib.Core.List.{[]};
 ghost use Prim.Native.Nat.{suc, _+_, _*_, _≤_, _<_};
 ghost use lib.ListN.{length, getD};
 ghost use Rattle.region.specs.Split.{split, base};
-ghost use Rattle.watch.specs.View.{list-of, spot, Next, Free, appended, moved, blocked};
+ghost use Rattle.watch.specs.View.{list-of, blocked};
 ghost use Rattle.watch.specs.Walk.{Stands};
 ghost use Rattle.state.specs.View.{Room, Rep, Holds, whole, shape, lists-size, with-watches};
 ghost use Rattle.state.specs.Laws.{with-store};
@@ -17,7 +17,6 @@ use super::clauses;
 use clause::Lit;
 use watch::Cursor;
 use watch::Lists;
-use watch::Prev;
 
 fn lists(d: Sizes) -> Lists
     requires { ⌜ (d .vars ≤ 4096) × (d .room ≤ 65535) ⌝ }
@@ -72,15 +71,6 @@ pub fn first(d: Sizes, h: Header, work: &[u32], l: Lit) -> usize
     watch::first(lists(d), block(d, work), l)
 }
 
-// The node after x, where x is in a list and not its last.
-pub fn next(d: Sizes, h: Header, work: &[u32], x: usize) -> usize
-    requires { ⌜ Rep d h (now work) ⌝ }
-    requires { ⌜ x < 2 * d .room ⌝ }
-    ensures { λ r. ⌜ Next (whole d h (now (work .entry)) .watches) x r ⌝ }
-{
-    watch::next(lists(d), block(d, work), x)
-}
-
 pub fn blocker(d: Sizes, h: Header, work: &[u32], x: usize) -> Lit
     requires { ⌜ Rep d h (now work) ⌝ }
     requires { ⌜ x < 2 * d .room ⌝ }
@@ -97,31 +87,6 @@ pub fn set_blocker(d: Sizes, h: Header, work: &mut [u32], x: usize, b: Lit)
     let a = begin(d);
     let e = end(d);
     watch::set_blocker(lists(d), &mut work[a..e], x, b);
-}
-
-// A node that is in no list goes to the end of the list of l, with the blocker b.
-pub fn append(d: Sizes, h: Header, work: &mut [u32], l: Lit, x: usize, b: Lit)
-    requires { ⌜ Rep d h (now work) ⌝ }
-    requires { ⌜ (l .0 < 2 * d .vars) × (x < 2 * d .room) ⌝ }
-    requires { ⌜ Free x (whole d h (now work) .watches .lists) ⌝ }
-    ensures { λ _. ⌜ Holds d h (now (work .exit)) (with-watches (whole d h (now (work .entry))) (appended (l .0) x (b .0) (whole d h (now (work .entry)) .watches))) ⌝ }
-{
-    let a = begin(d);
-    let e = end(d);
-    watch::append(lists(d), &mut work[a..e], l, x, b);
-}
-
-// The node x at a place of the list of l goes to the end of the list of m, with the blocker b.
-pub fn move_to(d: Sizes, h: Header, work: &mut [u32], l: Lit, prev: Prev, x: usize, m: Lit, b: Lit)
-    requires { ⌜ Rep d h (now work) ⌝ }
-    requires { ⌜ (l .0 < 2 * d .vars) × (m .0 < 2 * d .vars) × (l .0 ≡ m .0 → ⊥) ⌝ }
-    requires { ⌜ spot prev (list-of (whole d h (now work) .watches) (l .0)) < length (list-of (whole d h (now work) .watches) (l .0)) ⌝ }
-    requires { ⌜ x ≡ getD (list-of (whole d h (now work) .watches) (l .0)) (spot prev (list-of (whole d h (now work) .watches) (l .0))) 0 ⌝ }
-    ensures { λ _. ⌜ Holds d h (now (work .exit)) (with-watches (whole d h (now (work .entry))) (moved (l .0) (spot prev (list-of (whole d h (now (work .entry)) .watches) (l .0))) (m .0) (b .0) (whole d h (now (work .entry)) .watches))) ⌝ }
-{
-    let a = begin(d);
-    let e = end(d);
-    watch::move_to(lists(d), &mut work[a..e], l, prev, x, m, b);
 }
 
 // The cursor at the start of the list of l.

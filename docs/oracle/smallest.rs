@@ -1,0 +1,144 @@
+//! The smallest script on which two builds of the Rust give other cells: all scripts in turn, fewest cells
+//! first, then fewest variables.
+//!
+//!   smallest MAX_CELLS MAX_VARS [modes=..] [phases=..] [units=..] [budgets=..] [assumptions=N] [plain]
+//!
+//! The lists after = are what is tried, separated by commas; C is 8 and L 64, which the Rust does not read.
+//! `assumptions=N`: lists of up to N. `plain`: clauses upward, without repeats or both signs, and no assumed
+//! variable twice. Without it, all lists. A panic counts as an answer.
+
+use std::panic::{catch_unwind, AssertUnwindSafe};
+
+struct Space {
+    modes: Vec<u32>,
+    phases: Vec<u32>,
+    units: Vec<u32>,
+    budgets: Vec<u32>,
+    assumptions: usize,
+    plain: bool,
+}
+
+struct Search {
+    space: Space,
+    vars: u32,
+    tried: u64,
+    found: u64,
+}
+
+fn words(cells: &[u32]) -> String {
+    cells.iter().map(|c| c.to_string()).collect::<Vec<_>>().join(" ")
+}
+
+type Out = Option<Vec<u32>>;
+
+fn run(f: fn(&[u32]) -> Vec<u32>, script: &[u32]) -> Out {
+    catch_unwind(AssertUnwindSafe(|| f(script))).ok()
+}
+
+fn patched(script: &[u32]) -> Out {
+    run(|s| oracle_patched::run(s).0, script)
+}
+
+fn other(script: &[u32]) -> Out {
+    run(|s| oracle_other::run(s).0, script)
+}
+
+fn shown(out: &Out) -> String {
+    out.as_ref().map_or("panics".into(), |o| words(o))
+}
+
+impl Search {
+    /// A complete list of records, under all options.
+    fn compare(&mut self, script: &mut Vec<u32>) {
+        for m in 0..self.space.modes.len() {
+            for p in 0..self.space.phases.len() {
+                for u in 0..self.space.units.len() {
+                    (script[3], script[4], script[5]) = (self.space.modes[m], self.space.phases[p], self.space.units[u]);
+                    self.tried += 1;
+                    let (a, b) = (patched(script), other(script));
+                    if a != b {
+                        self.found += 1;
+                        if self.found <= 5 {
+                            println!("script  {}\npatched {}\nother   {}", words(script), shown(&a), shown(&b));
+                        }
+                    }
+                }
+            }
+        }
+    }
+
+    /// Literals behind `from`, so many; then the budgets of a solve; then more records.
+    fn literals(&mut self, script: &mut Vec<u32>, from: usize, count: usize, solve: bool, left: usize) {
+        if count > 0 {
+            for l in 0..2 * self.vars {
+                let own = &script[from..];
+                let fits = !self.space.plain
+                    || if solve { own.iter().all(|k| k >> 1 != l >> 1) } else { own.last().map_or(true, |k| k >> 1 < l >> 1) };
+                if fits {
+                    script.push(l);
+                    self.literals(script, from, count - 1, solve, left);
+                    script.pop();
+                }
+            }
+        } else if solve {
+            for b in 0..self.space.budgets.len() {
+                script.push(self.space.budgets[b]);
+                self.records(script, left);
+                script.pop();
+            }
+        } else {
+            self.records(script, left);
+        }
+    }
+
+    /// Records of `left` cells in all.
+    fn records(&mut self, script: &mut Vec<u32>, left: usize) {
+        if left == 0 {
+            return self.compare(script);
+        }
+        for (kind, head) in [(1u32, 2usize), (2, 3)] {
+            let solve = kind == 2;
+            let most = if solve { self.space.assumptions } else { 2 * self.vars as usize };
+            for count in 0..=most {
+                if head + count > left {
+                    break;
+                }
+                script.extend([kind, count as u32]);
+                let from = script.len();
+                self.literals(script, from, count, solve, left - head - count);
+                script.truncate(from - 2);
+            }
+        }
+    }
+}
+
+fn main() {
+    let args: Vec<String> = std::env::args().skip(1).collect();
+    let number = |i: usize| args.get(i).and_then(|a| a.parse::<u32>().ok()).expect("smallest MAX_CELLS MAX_VARS ...");
+    let list = |key: &str, default: &[u32]| {
+        let given = args.iter().find_map(|a| a.strip_prefix(key).and_then(|r| r.strip_prefix('=')));
+        given.map_or(default.to_vec(), |g| g.split(',').map(|n| n.parse().expect("a number")).collect())
+    };
+    let space = Space {
+        modes: list("modes", &[2, 1, 0]),
+        phases: list("phases", &[2, 1, 0]),
+        units: list("units", &[100, 1, 2]),
+        budgets: list("budgets", &[0, 1, 2, 9]),
+        assumptions: list("assumptions", &[8])[0] as usize,
+        plain: args.iter().any(|a| a == "plain"),
+    };
+    std::panic::set_hook(Box::new(|_| ()));
+    let mut search = Search { space, vars: 1, tried: 0, found: 0 };
+    for size in 6..=number(0) as usize {
+        for vars in 1..=number(1) {
+            search.vars = vars;
+            search.tried = 0;
+            search.found = 0;
+            search.records(&mut vec![vars, 8, 64, 0, 0, 0], size - 6);
+            println!("cells={} V={} scripts={} differ={}", size, vars, search.tried, search.found);
+            if search.found > 0 {
+                return;
+            }
+        }
+    }
+}

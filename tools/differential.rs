@@ -11,7 +11,7 @@
 mod shapes;
 
 use oracle::After;
-use shapes::{Record, Rng, Script};
+use shapes::{smaller, Record, Rng, Script};
 use std::fmt::Write as _;
 use std::io::Write as _;
 use std::time::Instant;
@@ -149,6 +149,7 @@ struct Totals {
     conflicts: u64,
     restarts: u64,
     longest: u64,
+    /// Runs of more than 5,000 conflicts with C of 5,000 and more.
     past_5000: u64,
     short: u64,
     mismatches: u64,
@@ -237,44 +238,10 @@ fn attempt(lent: &mut Lent, script: &Script, kind: Limits) -> Tried {
 
 // ---- a failing script, made smaller
 
-fn smaller(script: &Script) -> Vec<Script> {
-    let mut all = vec![];
-    for i in 0..script.records.len() {
-        let mut s = script.clone();
-        s.records.remove(i);
-        all.push(s);
-    }
-    for i in 0..script.records.len() {
-        let n = match &script.records[i] {
-            Record::Clause(l) | Record::Solve(l, _) => l.len(),
-        };
-        for k in 0..n {
-            let mut s = script.clone();
-            match &mut s.records[i] {
-                Record::Clause(l) | Record::Solve(l, _) => l.remove(k),
-            };
-            all.push(s);
-        }
-    }
-    let used = script.records.iter().flat_map(|r| match r {
-        Record::Clause(l) | Record::Solve(l, _) => l.iter().map(|x| x / 2 + 1),
-    });
-    let vars = used.max().unwrap_or(1);
-    if vars < script.vars {
-        all.push(Script { vars, ..script.clone() });
-    }
-    for (mode, phase, unit) in [(0, script.phase, script.unit), (script.mode, 0, script.unit), (script.mode, script.phase, 1)] {
-        if (mode, phase, unit) != (script.mode, script.phase, script.unit) {
-            all.push(Script { mode, phase, unit, ..script.clone() });
-        }
-    }
-    all
-}
-
 fn smallest(lent: &mut Lent, script: &Script, kind: Limits) -> Script {
     let mut s = script.clone();
     let began = Instant::now();
-    while began.elapsed().as_secs() < 60 {
+    while began.elapsed().as_secs() < 20 {
         match smaller(&s).into_iter().find(|t| attempt(lent, t, kind).fault.is_some()) {
             Some(t) => s = t,
             None => break,
@@ -311,11 +278,11 @@ impl Bench {
         totals.conflicts += t.cost.conflicts;
         totals.restarts += t.cost.restarts;
         totals.longest = totals.longest.max(t.cost.conflicts);
-        totals.past_5000 += (t.cost.conflicts > 5000 && !t.short) as u64;
+        totals.past_5000 += (t.cost.conflicts > 5000 && t.cells[1] >= 5000 && !t.short) as u64;
         totals.short += t.short as u64;
         if t.fault.is_some() {
             totals.mismatches += 1;
-            if self.faults.len() < 20 {
+            if self.faults.len() < 3 {
                 let s = smallest(&mut self.lent, script, kind);
                 let t = attempt(&mut self.lent, &s, kind);
                 let mut text = String::new();
@@ -519,9 +486,10 @@ fn vectors(lent: &mut Lent, path: &str) -> (u64, Vec<String>) {
 type Made = fn(&mut Rng) -> Script;
 type Listed = fn(&mut dyn FnMut(Script));
 
-const RANDOM: [(&str, u64, Made); 12] = [
+const RANDOM: [(&str, u64, Made); 13] = [
     ("tiny", 60000, shapes::tiny),
     ("small", 60000, shapes::small),
+    ("trimmed", 20000, shapes::trimmed),
     ("random-sat", 30000, shapes::random_sat),
     ("pigeonhole", 15000, shapes::pigeonhole),
     ("parity", 15000, shapes::parities),

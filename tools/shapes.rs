@@ -67,6 +67,50 @@ impl Script {
     }
 }
 
+pub fn lits_of(r: &Record) -> &Vec<u32> {
+    match r {
+        Clause(l) | Solve(l, _) => l,
+    }
+}
+
+pub fn lits_mut(r: &mut Record) -> &mut Vec<u32> {
+    match r {
+        Clause(l) | Solve(l, _) => l,
+    }
+}
+
+/// A script's neighbours: a record or a literal less, fewer variables, other options.
+pub fn smaller(script: &Script) -> Vec<Script> {
+    let mut all = vec![];
+    for i in 0..script.records.len() {
+        let mut s = script.clone();
+        s.records.remove(i);
+        all.push(s);
+    }
+    for i in 0..script.records.len() {
+        for k in 0..lits_of(&script.records[i]).len() {
+            let mut s = script.clone();
+            lits_mut(&mut s.records[i]).remove(k);
+            all.push(s);
+        }
+    }
+    let used = |v: u32| script.records.iter().any(|r| lits_of(r).iter().any(|l| l >> 1 == v));
+    for v in (0..script.vars).filter(|&v| script.vars > 1 && !used(v)) {
+        let mut s = script.clone();
+        s.vars -= 1;
+        for r in s.records.iter_mut() {
+            lits_mut(r).iter_mut().filter(|l| **l >> 1 > v).for_each(|l| *l -= 2);
+        }
+        all.push(s);
+    }
+    for (mode, phase, unit) in [(0, script.phase, script.unit), (script.mode, 0, script.unit), (script.mode, script.phase, 1)] {
+        if (mode, phase, unit) != (script.mode, script.phase, script.unit) {
+            all.push(Script { mode, phase, unit, ..script.clone() });
+        }
+    }
+    all
+}
+
 /// Clauses over some variables.
 pub struct Formula {
     pub vars: u32,
@@ -481,6 +525,34 @@ pub fn small(rng: &mut Rng) -> Script {
         })
         .collect();
     told(rng, Formula { vars, clauses })
+}
+
+/// A long clause is learnt, then a unit makes one of its literals false for good, with more clauses and solves.
+pub fn trimmed(rng: &mut Rng) -> Script {
+    let vars = rng.range(6, 10);
+    let long = rng.range(4, vars - 1);
+    let mut records = vec![];
+    let more = |rng: &mut Rng, records: &mut Vec<Record>, most: u32| {
+        for _ in 0..rng.below(most) {
+            let n = rng.range(2, 3);
+            records.push(Clause(distinct(rng, vars, n)));
+        }
+    };
+    let held: Vec<u32> = (0..long).map(|v| 2 * v).collect();
+    more(rng, &mut records, 3);
+    for sign in 0..2 {
+        let mut c: Vec<u32> = held.iter().copied().filter(|_| rng.chance(85)).collect();
+        c.push(2 * (vars - 1) + sign);
+        records.push(Clause(c));
+    }
+    more(rng, &mut records, 3);
+    records.push(solve(rng, vars));
+    records.push(Clause(vec![2 * rng.below(long) + 1]));
+    more(rng, &mut records, 4);
+    for _ in 0..rng.range(1, 2) {
+        records.push(solve(rng, vars));
+    }
+    options(rng, vars, records)
 }
 
 pub fn random_sat(rng: &mut Rng) -> Script {

@@ -1,11 +1,14 @@
 //! The smallest script on which two builds of the Rust give other cells: all scripts in turn, fewest cells
 //! first, then fewest variables.
 //!
-//!   smallest MAX_CELLS MAX_VARS [modes=..] [phases=..] [units=..] [budgets=..] [assumptions=N] [plain]
+//!   smallest MAX_CELLS MAX_VARS [modes=..] [phases=..] [units=..] [budgets=..] [assumptions=N] [from=CELLS]
+//!       [plain] [clauses-first] [learns]
 //!
 //! The lists after = are what is tried, separated by commas; C is 8 and L 64, which the Rust does not read.
-//! `assumptions=N`: lists of up to N. `plain`: clauses upward, without repeats or both signs, and no assumed
-//! variable twice. Without it, all lists. A panic counts as an answer.
+//! `assumptions=N`: lists of up to N. `plain`: clauses upward, without repeats or both signs, none empty, and no
+//! assumed variable twice; without it, all lists. `clauses-first`: no clause behind a solve. `learns`: not where two
+//! builds differ, but where a solve stores a clause. A panic counts as an answer. The search ends with the number of
+//! cells and of variables at which it first finds some, and shows up to five.
 
 use std::panic::{catch_unwind, AssertUnwindSafe};
 
@@ -16,6 +19,8 @@ struct Space {
     budgets: Vec<u32>,
     assumptions: usize,
     plain: bool,
+    clauses_first: bool,
+    learns: bool,
 }
 
 struct Search {
@@ -43,6 +48,20 @@ fn other(script: &[u32]) -> Out {
     run(|s| oracle_other::run(s).0, script)
 }
 
+/// Whether a solve of the script stores a clause.
+fn learns(script: &[u32]) -> bool {
+    let mut stored = vec![];
+    oracle_patched::run_with(script, |a| stored.push(a.clauses));
+    let (mut at, mut before) = (6, 0);
+    stored.iter().any(|&now| {
+        let solve = script[at] == 2;
+        at += 2 + script[at + 1] as usize + solve as usize;
+        let more = now > before;
+        before = now;
+        solve && more
+    })
+}
+
 fn shown(out: &Out) -> String {
     out.as_ref().map_or("panics".into(), |o| words(o))
 }
@@ -54,13 +73,21 @@ impl Search {
             for p in 0..self.space.phases.len() {
                 for u in 0..self.space.units.len() {
                     (script[3], script[4], script[5]) = (self.space.modes[m], self.space.phases[p], self.space.units[u]);
+                    if self.found >= 5 {
+                        return;
+                    }
                     self.tried += 1;
+                    if self.space.learns {
+                        if learns(script) {
+                            self.found += 1;
+                            println!("script  {}\npatched {}", words(script), shown(&patched(script)));
+                        }
+                        continue;
+                    }
                     let (a, b) = (patched(script), other(script));
                     if a != b {
                         self.found += 1;
-                        if self.found <= 5 {
-                            println!("script  {}\npatched {}\nother   {}", words(script), shown(&a), shown(&b));
-                        }
+                        println!("script  {}\npatched {}\nother   {}", words(script), shown(&a), shown(&b));
                     }
                 }
             }
@@ -68,7 +95,7 @@ impl Search {
     }
 
     /// Literals behind `from`, so many; then the budgets of a solve; then more records.
-    fn literals(&mut self, script: &mut Vec<u32>, from: usize, count: usize, solve: bool, left: usize) {
+    fn literals(&mut self, script: &mut Vec<u32>, from: usize, count: usize, solve: bool, left: usize, solved: bool) {
         if count > 0 {
             for l in 0..2 * self.vars {
                 let own = &script[from..];
@@ -76,36 +103,42 @@ impl Search {
                     || if solve { own.iter().all(|k| k >> 1 != l >> 1) } else { own.last().map_or(true, |k| k >> 1 < l >> 1) };
                 if fits {
                     script.push(l);
-                    self.literals(script, from, count - 1, solve, left);
+                    self.literals(script, from, count - 1, solve, left, solved);
                     script.pop();
                 }
             }
         } else if solve {
             for b in 0..self.space.budgets.len() {
                 script.push(self.space.budgets[b]);
-                self.records(script, left);
+                self.records(script, left, solved);
                 script.pop();
             }
         } else {
-            self.records(script, left);
+            self.records(script, left, solved);
         }
     }
 
     /// Records of `left` cells in all.
-    fn records(&mut self, script: &mut Vec<u32>, left: usize) {
+    fn records(&mut self, script: &mut Vec<u32>, left: usize, solved: bool) {
+        if self.found >= 5 {
+            return;
+        }
         if left == 0 {
             return self.compare(script);
         }
         for (kind, head) in [(1u32, 2usize), (2, 3)] {
             let solve = kind == 2;
+            if !solve && solved && self.space.clauses_first {
+                continue;
+            }
             let most = if solve { self.space.assumptions } else { 2 * self.vars as usize };
-            for count in 0..=most {
+            for count in (self.space.plain && !solve) as usize..=most {
                 if head + count > left {
                     break;
                 }
                 script.extend([kind, count as u32]);
                 let from = script.len();
-                self.literals(script, from, count, solve, left - head - count);
+                self.literals(script, from, count, solve, left - head - count, solved || solve);
                 script.truncate(from - 2);
             }
         }
@@ -126,16 +159,18 @@ fn main() {
         budgets: list("budgets", &[0, 1, 2, 9]),
         assumptions: list("assumptions", &[8])[0] as usize,
         plain: args.iter().any(|a| a == "plain"),
+        clauses_first: args.iter().any(|a| a == "clauses-first"),
+        learns: args.iter().any(|a| a == "learns"),
     };
     std::panic::set_hook(Box::new(|_| ()));
     let mut search = Search { space, vars: 1, tried: 0, found: 0 };
-    for size in 6..=number(0) as usize {
+    for size in list("from", &[6])[0] as usize..=number(0) as usize {
         for vars in 1..=number(1) {
             search.vars = vars;
             search.tried = 0;
             search.found = 0;
-            search.records(&mut vec![vars, 8, 64, 0, 0, 0], size - 6);
-            println!("cells={} V={} scripts={} differ={}", size, vars, search.tried, search.found);
+            search.records(&mut vec![vars, 8, 64, 0, 0, 0], size - 6, false);
+            println!("cells={} V={} scripts={} found={}", size, vars, search.tried, search.found);
             if search.found > 0 {
                 return;
             }

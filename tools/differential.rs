@@ -539,7 +539,11 @@ fn main() {
         let mut rng = Rng(seed.wrapping_mul(1000).wrapping_add(i as u64));
         for _ in 0..(count * scale).div_ceil(100) {
             let script = make(&mut rng);
-            let kind = if count < 100 { Limits::Exact } else { some_limits(&mut rng) };
+            let kind = match count {
+                0..=9 => Limits::Slack(65535, 1048576), // the most there can be
+                10..=99 => Limits::Exact,
+                _ => some_limits(&mut rng),
+            };
             bench.compare(&script, kind, &mut totals);
         }
         println!("{}", totals.line(name, began.elapsed().as_secs_f64()));

@@ -393,13 +393,18 @@ fn renamed(rng: &mut Rng, f: &mut Formula) {
 pub const UNITS: [u32; 9] = [1, 1, 2, 3, 5, 10, 50, 100, 1000];
 const BUDGETS: [u32; 9] = [0, 1, 1, 2, 3, 5, 10, 100, 1000];
 
+fn budget(rng: &mut Rng, vars: u32) -> u32 {
+    if vars <= 60 && rng.chance(10) { 1000000 } else { rng.pick(&BUDGETS) }
+}
+
 fn options(rng: &mut Rng, vars: u32, records: Vec<Record>) -> Script {
-    Script { vars, mode: rng.below(3), phase: rng.below(3), unit: rng.pick(&UNITS), records }
+    let unit = if rng.chance(10) { rng.range(1, 1000) } else { rng.pick(&UNITS) };
+    Script { vars, mode: rng.below(3), phase: rng.below(3), unit, records }
 }
 
 fn solve(rng: &mut Rng, vars: u32) -> Record {
     let lits = assumptions(rng, vars);
-    Solve(lits, rng.pick(&BUDGETS))
+    Solve(lits, budget(rng, vars))
 }
 
 /// A clause that says little: both signs, repeats, a unit, seldom none.
@@ -490,9 +495,9 @@ fn told(rng: &mut Rng, mut f: Formula) -> Script {
                 if rng.chance(30) {
                     lits.push(rng.below(2 * width));
                 }
-                records.push(Solve(lits, rng.pick(&BUDGETS)));
+                records.push(Solve(lits, budget(rng, width)));
             }
-            records.push(Solve(vec![], rng.pick(&BUDGETS)));
+            records.push(Solve(vec![], budget(rng, width)));
         }
     }
     options(rng, width, records)

@@ -1,14 +1,16 @@
-//! The smallest script on which two builds of the Rust give other cells: all scripts in turn, fewest cells
-//! first, then fewest variables.
+//! The smallest script on which two builds of the Rust give other cells: all scripts in turn, fewest cells first, then
+//! fewest variables. It ends with the first number of cells and of variables where there is one, and shows up to five.
 //!
 //!   smallest MAX_CELLS MAX_VARS [modes=..] [phases=..] [units=..] [budgets=..] [assumptions=N] [from=CELLS]
-//!       [plain] [clauses-first] [learns]
+//!       [plain] [clauses-first] [after-conflict] [learns]
 //!
-//! The lists after = are what is tried, separated by commas; C is 8 and L 64, which the Rust does not read.
-//! `assumptions=N`: lists of up to N. `plain`: clauses upward, without repeats or both signs, none empty, and no
-//! assumed variable twice; without it, all lists. `clauses-first`: no clause behind a solve. `learns`: not where two
-//! builds differ, but where a solve stores a clause. A panic counts as an answer. The search ends with the number of
-//! cells and of variables at which it first finds some, and shows up to five.
+//! The lists after = are what is tried, separated by commas; C is 8 and L 64, which the Rust does not read. A panic
+//! counts as an answer.
+//! `assumptions=N`: lists of up to N.
+//! `plain`: clauses upward, without repeats or both signs, none empty, and no assumed variable twice; else all lists.
+//! `clauses-first`: no clause behind a solve.
+//! `after-conflict`: the second build is run only where the first has a conflict, for changes that need one.
+//! `learns`: not where two builds differ, but where a solve stores a clause.
 
 use std::panic::{catch_unwind, AssertUnwindSafe};
 
@@ -20,6 +22,7 @@ struct Space {
     assumptions: usize,
     plain: bool,
     clauses_first: bool,
+    after_conflict: bool,
     learns: bool,
 }
 
@@ -82,6 +85,9 @@ impl Search {
                             self.found += 1;
                             println!("script  {}\npatched {}", words(script), shown(&patched(script)));
                         }
+                        continue;
+                    }
+                    if self.space.after_conflict && oracle_patched::run(script).1.conflicts == 0 {
                         continue;
                     }
                     let (a, b) = (patched(script), other(script));
@@ -160,6 +166,7 @@ fn main() {
         assumptions: list("assumptions", &[8])[0] as usize,
         plain: args.iter().any(|a| a == "plain"),
         clauses_first: args.iter().any(|a| a == "clauses-first"),
+        after_conflict: args.iter().any(|a| a == "after-conflict"),
         learns: args.iter().any(|a| a == "learns"),
     };
     std::panic::set_hook(Box::new(|_| ()));

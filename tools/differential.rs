@@ -6,7 +6,8 @@
 //! Of an accepted script that never runs short of storage all cells are compared; of one that runs short,
 //! those before the record that does, and that this record says so. After each run the lent slices are
 //! looked at too: work and activities zero as far as they were asked for, all else as found.
-//! The smallest failing script is written to mismatch.txt in the folder of the run.
+//! The first failing scripts are made smaller and written to mismatch.txt in the folder of the run, smallest first;
+//! with SHRINK=0 in the environment, as they are.
 
 mod shapes;
 
@@ -240,6 +241,9 @@ fn attempt(lent: &mut Lent, script: &Script, kind: Limits) -> Tried {
 
 fn smallest(lent: &mut Lent, script: &Script, kind: Limits) -> Script {
     let mut s = script.clone();
+    if std::env::var("SHRINK").is_ok_and(|v| v == "0") {
+        return s;
+    }
     let began = Instant::now();
     while began.elapsed().as_secs() < 20 {
         match smaller(&s).into_iter().find(|t| attempt(lent, t, kind).fault.is_some()) {

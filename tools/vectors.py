@@ -2,10 +2,11 @@
 """Makes and checks the files of vectors/, and states the small ones over the definition.
 
   tools/vectors.py ORACLE             write vectors/*.txt; ORACLE is the program of docs/oracle/build
-  tools/vectors.py --check [ORACLE]   run tools/reading.py, and ORACLE if given, over vectors/*.txt
+  tools/vectors.py --check [ORACLE]   run tools/reading.py, and ORACLE if given, over vectors/*.txt, and see that crates/replay has them
   tools/vectors.py --random N SEED ORACLE
                                       compare ORACLE and tools/reading.py on N random scripts
   tools/vectors.py --antt DIR         write DIR/specs/*.antt and DIR/src/lib.rt from vectors/*.txt
+  tools/vectors.py --replay           write crates/replay/stdin and stdout from vectors/*.txt
 
 Cells in oracle.txt come from the oracle. Those in storage.txt and refusals.txt, of which the oracle
 knows nothing, stand in tools/cases.py beside their sentence of document 01. Nothing is written where
@@ -24,6 +25,7 @@ import reading
 
 HERE = os.path.dirname(os.path.abspath(__file__))
 VECTORS = os.path.join(HERE, "..", "vectors")
+REPLAY = os.path.join(HERE, "..", "crates", "replay")
 SEED = 809
 UNITS = (1, 2, 5, 100)
 
@@ -439,6 +441,10 @@ def check(program):
     lines += [("storage", *fields) for _, _, fields in read_file("storage")]
     lines += [("refusals", name, lengths + " | " + cells, expected)
               for _, _, (name, lengths, cells, expected) in read_file("refusals")]
+    for name, text in zip(("stdin", "stdout"), replay_files()):
+        if open(os.path.join(REPLAY, name), encoding="utf-8").read() != text:
+            wrong += 1
+            print("crates/replay/%s is not what the generator makes" % name)
     rescales = 0
     for file, name, text, expected in lines:
         got, state = reading.answer(text)
@@ -554,6 +560,46 @@ def antt(folder):
     print("%d theorems" % sum(len(theorems) for _, theorems in modules.values()))
 
 
+# ---- for the program crates/replay
+
+MOST_REPLAYED = 16384 - 6  # the script and out cells that its slice has room for; bindings/ runs the refusals that are longer
+
+
+def replay_lines(file):
+    """The groups of a file, each with the lines of its scripts."""
+    made = {}
+    for group, _, (name, *lengths, script_cells, expected) in read_file(file):
+        cells = reading.cells(script_cells)
+        if lengths:
+            lengths = lengths[0].split()
+        else:  # what is asked for, and some cells behind it
+            V, C, L = cells[:3]
+            lengths = [32 * V + 8 * C + L + 64 + 16, V + 4, reading.judge(cells, out=-1)[1] + 8]
+        refusal, out = (0, 0), []
+        if expected.startswith("refused"):
+            refusal = expected.split()[1:]
+        else:
+            out = reading.cells(expected)
+        if len(cells) + len(out) <= MOST_REPLAYED:
+            made.setdefault(group or file, []).append(line([name, *lengths, *refusal, len(cells), *cells, *out]))
+    return made
+
+
+def replay_files():
+    """What crates/replay reads, and what it must write."""
+    groups = [made for file in ("oracle", "storage", "refusals") for made in replay_lines(file).items()]
+    text = "".join("group %s\n%s\n" % (title, "\n".join(lines)) for title, lines in groups)
+    counts = [("group " + title, len(lines)) for title, lines in groups]
+    counts.append(("all", sum(count for _, count in counts)))
+    return text, "".join("%s: %d passed, 0 failed\n" % each for each in counts)
+
+
+def replay():
+    for name, text in zip(("stdin", "stdout"), replay_files()):
+        with open(os.path.join(REPLAY, name), "w", encoding="utf-8") as file:
+            file.write(text)
+
+
 def main(words):
     if words[:1] == ["--check"] and len(words) <= 2:
         check(words[1] if len(words) == 2 else None)
@@ -561,6 +607,8 @@ def main(words):
         compare(int(words[1]), int(words[2]), words[3])
     elif words[:1] == ["--antt"] and len(words) == 2:
         antt(words[1])
+    elif words == ["--replay"]:
+        replay()
     elif len(words) == 1 and not words[0].startswith("-"):
         write(words[0])
     else:

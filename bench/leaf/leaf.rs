@@ -7,7 +7,7 @@ use std::time::Instant;
 #[link(name = "leafbench", kind = "static")]
 extern "C" {
     fn leaf_trail(work: *mut u32, len: usize, order: *const u32, order_len: usize, n: u32) -> usize;
-    fn leaf_watch(work: *mut u32, len: usize, order: *const u32, order_len: usize, n: u32) -> u32;
+    fn leaf_watch(work: *mut u32, len: usize, order: *const u32, order_len: usize, n: u32) -> u64;
 }
 
 #[derive(Clone, Copy)]

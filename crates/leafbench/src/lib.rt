@@ -1,22 +1,26 @@
 // Loops over the state's functions, for measuring them from outside.
-ghost use Prim.Native.Nat.{_*_, _<_, _≤_};
+ghost use Prim.Native.Nat.{_+_, _*_, _<_, _≤_};
 ghost use mathlib.Core.Path.{_≡_};
-ghost use lib.ListN.{length};
+ghost use lib.ListN.{length, getD, take};
 ghost use Rattle.watch.specs.View.{list-of};
-ghost use Rattle.watch.specs.Walk.{Stands};
-ghost use Rattle.state.specs.View.{Room, Rep, whole};
+ghost use Rattle.state.specs.View.{Rep, whole};
+ghost use Rattle.state.specs.AssignmentLaws.{counts};
 ghost use Rattle.tour.specs.Live.{Live};
+ghost use Rattle.tour.specs.Steps.{At, stage};
+ghost use Rattle.leafbench.specs.Results.{filled, hit-by, hits, leaf-trail, leaf-watch, leaf-work};
+ghost use Rattle.leafbench.specs.Loops.{Ample, Row};
 use clause::Lit;
 use state::Header;
 use state::Sizes;
 use state::assignment;
+use state::start;
 use state::watches;
 
 // The first 64 literals of `order` go on the trail.
 fn fill(d: Sizes, h: Header, work: &mut [u32], order: &[u32]) -> Header
     requires { ⌜ Live d h (now work) ⌝ }
     requires { ⌜ 64 ≤ length (now order) ⌝ }
-    ensures { λ r. ⌜ Live d r (now (work .exit)) ⌝ }
+    ensures { λ r. ⌜ At d r (now (work .exit)) (filled d (stage h (whole d h (now (work .entry)))) (take 64 (now (order .entry)))) ⌝ }
 {
     let mut r = h;
     for i in 0..64usize {
@@ -28,9 +32,9 @@ fn fill(d: Sizes, h: Header, work: &mut [u32], order: &[u32]) -> Header
 
 // A level is opened, filled and taken back.
 fn turn(d: Sizes, h: Header, work: &mut [u32], order: &[u32]) -> Header
-    requires { ⌜ Live d h (now work) ⌝ }
+    requires { ⌜ Live d h (now work) × (h .trail ≡ counts 0 0) ⌝ }
     requires { ⌜ 64 ≤ length (now order) ⌝ }
-    ensures { λ r. ⌜ Live d r (now (work .exit)) ⌝ }
+    ensures { λ r. ⌜ Live d r (now (work .exit)) × (r .trail ≡ counts 0 0) ⌝ }
 {
     let a = tour::open(d, h, work);
     let b = fill(d, a, work, order);
@@ -38,9 +42,9 @@ fn turn(d: Sizes, h: Header, work: &mut [u32], order: &[u32]) -> Header
 }
 
 fn turns(d: Sizes, h: Header, work: &mut [u32], order: &[u32], n: u32) -> Header
-    requires { ⌜ Live d h (now work) ⌝ }
+    requires { ⌜ Live d h (now work) × (h .trail ≡ counts 0 0) ⌝ }
     requires { ⌜ 64 ≤ length (now order) ⌝ }
-    ensures { λ r. ⌜ Live d r (now (work .exit)) ⌝ }
+    ensures { λ r. ⌜ Live d r (now (work .exit)) × (r .trail ≡ counts 0 0) ⌝ }
 {
     let mut r = h;
     for i in 0..n {
@@ -51,8 +55,9 @@ fn turns(d: Sizes, h: Header, work: &mut [u32], order: &[u32], n: u32) -> Header
 
 // 32 clauses whose first literal is 0.
 fn clauses(d: Sizes, h: Header, work: &mut [u32]) -> Header
-    requires { ⌜ Live d h (now work) ⌝ }
-    ensures { λ r. ⌜ Live d r (now (work .exit)) ⌝ }
+    requires { ⌜ Ample d ⌝ }
+    requires { ⌜ Row d h (whole d h (now work)) h (now work) 0 ⌝ }
+    ensures { λ r. ⌜ Row d h (whole d h (now (work .entry))) r (now (work .exit)) 32 ⌝ }
 {
     let mut r = h;
     for i in 0..32u32 {
@@ -62,23 +67,25 @@ fn clauses(d: Sizes, h: Header, work: &mut [u32]) -> Header
 }
 
 // n, and one more where the blocker of node x is true.
-fn count_true(d: Sizes, h: Header, work: &[u32], x: usize, n: u32) -> u32
+fn count_true(d: Sizes, h: Header, work: &[u32], x: usize, n: u64) -> u64
     requires { ⌜ Rep d h (now work) ⌝ }
-    requires { ⌜ x < 2 * d .room ⌝ }
+    requires { ⌜ (x < 2 * d .room) × (n ≤ 1099511627776) ⌝ }
+    ensures { λ r. ⌜ r ≡ n + hit-by d (whole d h (now (work .entry))) (getD (whole d h (now (work .entry)) .watches .blockers) x 0) ⌝ }
 {
     let b = watches::blocker(d, h, work, x);
     if ((b.0 / 2) as usize) < d.vars {
         if assignment::value(d, h, work, b) == 0 {
-            return std::num::wrapping_add_u32(n, 1);
+            return n + 1;
         }
     }
     n
 }
 
 // The list of l is walked.
-fn walk(d: Sizes, h: Header, work: &[u32], l: Lit, n: u32) -> u32
+fn walk(d: Sizes, h: Header, work: &[u32], l: Lit, n: u64) -> u64
     requires { ⌜ Live d h (now work) ⌝ }
-    requires { ⌜ l .0 < 2 * d .vars ⌝ }
+    requires { ⌜ (l .0 < 2 * d .vars) × (length (list-of (whole d h (now work) .watches) (l .0)) ≤ 32) × (n ≤ 549755813888) ⌝ }
+    ensures { λ r. ⌜ r ≡ n + hits d (whole d h (now (work .entry))) (list-of (whole d h (now (work .entry)) .watches) (l .0)) ⌝ }
 {
     let mut k = n;
     let mut c = watches::walk(d, h, work, l);
@@ -90,21 +97,23 @@ fn walk(d: Sizes, h: Header, work: &[u32], l: Lit, n: u32) -> u32
     k
 }
 
-fn walks(d: Sizes, h: Header, work: &[u32], l: Lit, n: u32) -> u32
+fn walks(d: Sizes, h: Header, work: &[u32], l: Lit, n: u32) -> u64
     requires { ⌜ Live d h (now work) ⌝ }
-    requires { ⌜ l .0 < 2 * d .vars ⌝ }
+    requires { ⌜ (l .0 < 2 * d .vars) × (length (list-of (whole d h (now work) .watches) (l .0)) ≤ 32) ⌝ }
+    ensures { λ r. ⌜ r ≡ n * hits d (whole d h (now (work .entry))) (list-of (whole d h (now (work .entry)) .watches) (l .0)) ⌝ }
 {
-    let mut k: u32 = 0;
+    let mut k: u64 = 0;
     for i in 0..n {
         k = walk(d, h, work, l, k);
     }
     k
 }
 
-// n levels, each filled and taken back: how many literals are then on the trail. With 64 variables; a short slice is refused.
+// n levels, each filled and taken back: how many literals are then on the trail. With 64 variables; a short slice is refused. The slice is left zero.
 #[no_mangle]
 pub extern "C" fn leaf_trail(work: &mut [u32], order: &[u32], n: u32) -> usize
-    ensures { λ r. ⌜ r ≤ 64 ⌝ }
+    ensures { λ r. ⌜ r ≡ leaf-trail (length (now (work .entry))) (length (now (order .entry))) ⌝ }
+    ensures { λ r. ⌜ now (work .exit) ≡ leaf-work (now (work .entry)) (length (now (order .entry))) ⌝ }
 {
     if work.len() < 1986 {
         return 1;
@@ -119,12 +128,16 @@ pub extern "C" fn leaf_trail(work: &mut [u32], order: &[u32], n: u32) -> usize
     };
     let h = tour::begin(d, work);
     let r = turns(d, h, work, order, n);
+    start::clear(work);
     r.trail.assigned
 }
 
-// n walks of a list of 32 nodes, where the literals of `order` are true: how many true blockers were met.
+// n walks of a list of 32 nodes, where the literals of `order` are true: how many true blockers were met. The slice is left zero.
 #[no_mangle]
-pub extern "C" fn leaf_watch(work: &mut [u32], order: &[u32], n: u32) -> u32 {
+pub extern "C" fn leaf_watch(work: &mut [u32], order: &[u32], n: u32) -> u64
+    ensures { λ r. ⌜ r ≡ leaf-watch (length (now (work .entry))) (now (order .entry)) n ⌝ }
+    ensures { λ r. ⌜ now (work .exit) ≡ leaf-work (now (work .entry)) (length (now (order .entry))) ⌝ }
+{
     if work.len() < 1986 {
         return 0;
     }
@@ -139,5 +152,7 @@ pub extern "C" fn leaf_watch(work: &mut [u32], order: &[u32], n: u32) -> u32 {
     let h = tour::begin(d, work);
     let a = clauses(d, h, work);
     let b = fill(d, a, work, order);
-    walks(d, b, work, Lit(1), n)
+    let k = walks(d, b, work, Lit(1), n);
+    start::clear(work);
+    k
 }

@@ -8,11 +8,12 @@ use native.Mathlib.Nat.{pow-suc}
 use native.Mathlib.Decide.{decLt, ℕ-discrete}
 use lib.ListN.{length, getD, take, drop, length-append, length-drop, length-take, List·getD-eq-default}
 use lib.Seq.{getD-drop, getD-take}
-use Rattle.text.specs.Bytes.{bytes}
+use Rattle.text.specs.Bytes.{bytes, newline}
 use Rattle.text.specs.Limits.{max-number, max-cells, max-bytes}
 use Rattle.text.specs.Number.{shown, shown-literal}
 use Rattle.text.specs.Answers.{
   numbered,
+  printed-refusal,
   item,
   spaced,
   listed,
@@ -32,7 +33,7 @@ use Rattle.text.specs.WriteLaws.{shown-one, shown-more}
 use Rattle.text.specs.PrintLaws as law
 
 -- cells of 32 bits
-pub Small : List ℕ → Type 0
+unfoldable pub Small : List ℕ → Type 0
 Small xs = (k : ℕ) → getD xs k 0 ≤ max-number
 
 shown-length : (k n : ℕ) → n < 10 ^ suc k → length (shown n) ≤ suc k
@@ -186,3 +187,20 @@ pub printed-length : (script lines out : List ℕ) → Small lines → Small out
 unfolding printed
 printed-length script lines out sl s h k =
     omega (arith, records-length (kinds 6 script) lines out sl s (omega arith), kinds-length 6 script)
+
+-- a number of 64 bits has 20 digits at most
+pub refusal-length : (number place : ℕ) → number < 10 ^ 20 → place < 10 ^ 20 → length (printed-refusal number place) ≤ max-bytes
+unfolding printed-refusal numbered
+refusal-length number place h k =
+    let a = numbered (bytes "refused=") number in
+    let b = numbered (bytes "place=") place in
+    omega (
+      arith,
+      length-append a b,
+      length-append (bytes "refused=" ++ shown number) (newline ∷ []),
+      length-append (bytes "refused=") (shown number),
+      length-append (bytes "place=" ++ shown place) (newline ∷ []),
+      length-append (bytes "place=") (shown place),
+      shown-length 19 number h,
+      shown-length 19 place k,
+    )

@@ -2,6 +2,9 @@ use native.Mathlib.Omega.{arith}
 use mathlib.Core.List.{[], _∷_}
 use Rattle.state.specs.View.{whole, Holds}
 use Rattle.tour.specs.Live.{with-pushed, roomy, storable, one-more, live-pushed, live-stored}
+use mathlib.Core.Path.{refl, ap, _∙_}
+use Rattle.state.specs.Fresh.{stored-in}
+use Rattle.tour.specs.Steps.{taken, three-heads}
 use borrow.Author.Needs.{needs}
 use Rattle.tour.proofs.add_three.Statement.{statement}
 use Rattle.tour.proofs.add_three.Tie as tie
@@ -55,7 +58,11 @@ returns c =
     let k₁ = one-more (s .args .h) w [] (s .args .p .0) k₀ (c .before .before .before .before .before .before .before .before .before .before .before .before .before .before .push-lit .ensures .0) in
     let k₂ = one-more (s .args .h) w (s .args .p .0 ∷ []) (s .args .q .0) k₁ (c .before .before .before .before .before .before .before .before .before .before .push-lit2 .ensures .0) in
     let k₃ = one-more (s .args .h) w (s .args .p .0 ∷ s .args .q .0 ∷ []) (s .args .r .0) k₂ (c .before .before .before .before .before .before .push-lit3 .ensures .0) in
-    live-stored (live-pushed (s .pre .0) (s .args .p .0 ∷ s .args .q .0 ∷ s .args .r .0 ∷ []) k₃) (c .before .before .store-pushed .ensures .0)
+    let e = c .before .before .store-pushed .ensures in
+    taken (live-stored (live-pushed (s .pre .0) (s .args .p .0 ∷ s .args .q .0 ∷ s .args .r .0 ∷ []) k₃) (e .0))
+    (three-heads (s .args .h) _ _ _ _ _ (c .before .before .before .before .before .before .before .before .before .before .before .before .before .before .before .before .discard .ensures .1) (c .before .before .before .before .before .before .before .before .before .before .before .before .before .before .push-lit .ensures .1) (c .before .before .before .before .before .before .before .before .before .before .push-lit2 .ensures .1) (c .before .before .before .before .before .before .push-lit3 .ensures .1) (e .1))
+    (e .0 .holds .whole ∙ ap stored-in (k₃ .whole))
+    refl
 
 pub add-three-spec : {M : Type 1} → statement M
 add-three-spec =

@@ -1,0 +1,4 @@
+pub mod Answered
+pub mod Backing
+pub mod Cells
+pub mod Solving

@@ -1,0 +1,5 @@
+pub mod Accepting
+pub mod Answering
+pub mod Numbers
+pub mod Recording
+pub mod Runs

@@ -1,0 +1,76 @@
+/* The SAT engine as C sees it. docs/FORMAT.md says what a script and its answers are; this page says how to call.
+ *
+ * Link target/staticlib/libengine.a (x86-64 Linux, `rt staticlib engine`). It allocates nothing, keeps nothing between calls, reads no file and calls
+ * nothing but C's memset, so calls on different slices may run at the same time.
+ *
+ * Slices. A slice is two arguments: a pointer to its first element and how many elements it has (not bytes). What the caller owes, and no proof can see:
+ *   - the pointer is not null and is aligned for its type, also where the length is 0, and that many elements can be read (and written, if not const);
+ *   - no slice that the engine writes (work, activities, out, and *refusal) overlaps another one;
+ *   - nobody else writes any of them, or the script, during the call.
+ * Nothing else is asked: any cells and any lengths end in an answer or a refusal.
+ */
+#ifndef ENGINE_H
+#define ENGINE_H
+
+#include <stddef.h>
+#include <stdint.h>
+
+#ifdef __cplusplus
+extern "C" {
+#endif
+
+/* Why a script is turned back. The first that applies is given, in this order, but for a record's, which are judged 7, 8 (no count), 10, 8, 9, 11, record by
+ * record. `place` is what engine_run returns; cells of the script count from 0. */
+enum engine_refusal {
+    ENGINE_ACCEPTED = 0,
+    ENGINE_SHORT_HEADER = 1,     /* the script has under 6 cells; place: its length */
+    ENGINE_BAD_VARIABLES = 2,    /* V is not 1 to 4,096; place: 0 */
+    ENGINE_BAD_LIMITS = 3,       /* C is over 65,535 (place 1), or L over 1,048,576 (place 2) */
+    ENGINE_BAD_OPTIONS = 4,      /* mode over 2 (place 3), phase over 2 (place 4), or unit not 1 to 1,000 (place 5) */
+    ENGINE_SHORT_WORK = 5,       /* work has under 32 V + 8 C + L + 64 cells; place: that number */
+    ENGINE_SHORT_ACTIVITIES = 6, /* activities has under V elements; place: V */
+    ENGINE_BAD_RECORD = 7,       /* a record's first cell is not 1 or 2; place: its cell */
+    ENGINE_CUT_RECORD = 8,       /* a record runs past the script; place: the script's length */
+    ENGINE_BAD_LITERAL = 9,      /* a literal is 2 V or more; place: its cell */
+    ENGINE_BAD_COUNT = 10,       /* a count is over 2 V; place: its cell */
+    ENGINE_BAD_BUDGET = 11,      /* a budget is over 1,000,000; place: its cell */
+    ENGINE_SHORT_OUT = 12        /* out has under clauses + solves (V + 4) cells; place: that number, or 4,294,967,295 if it is more */
+    /* 13 to 15 are refusals of loadsat's text, which this library does not read */
+};
+
+/* What a clause's out cell says. */
+enum engine_clause {
+    ENGINE_NO_MODEL = 0, /* taken, and the clauses are now known to have no model */
+    ENGINE_TAKEN = 1,
+    ENGINE_UNTAKEN = 2   /* not taken: no storage */
+};
+
+/* A solve's first out cell; the second is its conflicts, the third a count, and that many cells follow. */
+enum engine_verdict {
+    ENGINE_TRUE = 0,  /* the model: for each variable 0 (true) or 1 (false) */
+    ENGINE_FALSE = 1, /* the final clause: negated assumptions */
+    ENGINE_UNDEF = 2  /* one cell of cause: 1 the budget is spent, 2 no storage */
+};
+
+/* Runs a script.
+ *
+ * If it is accepted, *refusal is 0 and the result is how many cells of out were written. The first 32 V + 8 C + L + 64 cells of work and the first V
+ * activities are then 0; what they held before does not matter, and the rest of both, and of out, is as it was.
+ * If it is refused, *refusal is its number, the result its place, and work, activities and out are as they were. */
+uint64_t engine_run(const uint32_t *script, size_t script_len,
+                    uint32_t *work, size_t work_len,
+                    double *activities, size_t activities_len,
+                    uint32_t *out, size_t out_len,
+                    uint32_t *refusal);
+
+/* The work cells that a script of these V, C and L needs: 32 V + 8 C + L + 64. */
+uint64_t engine_work_len(uint32_t v, uint32_t c, uint32_t l);
+
+/* The out cells that an accepted script needs: clauses + solves (V + 4). 0 if its header or a record is turned back. */
+uint64_t engine_out_len(const uint32_t *script, size_t script_len);
+
+#ifdef __cplusplus
+}
+#endif
+
+#endif

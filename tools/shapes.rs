@@ -820,7 +820,7 @@ pub fn all_of_three(run: &mut dyn FnMut(Script)) {
 }
 
 /// V = 3: all 256 sets of clauses of three literals, upward and downward, a solve after each clause or
-/// at the end only, budgets 0 to 3, then a solve with each list of up to three assumptions; all options.
+/// at the end only, budgets 0 to 3, then a solve with every seventh list of up to three assumptions; all options.
 pub fn all_threes(run: &mut dyn FnMut(Script)) {
     let kinds: Vec<Vec<u32>> = plain_clauses(3, 3).into_iter().filter(|c| c.len() == 3).collect();
     let words = lists(&[0, 1, 2, 3, 4, 5], 3);

@@ -80,6 +80,7 @@ RESTATED = {
         ("watching/specs/Lists.antt", "push-length ws (neg l) (", "push-length ws p ("),
         ("watching/specs/Lists.antt", "push-every ws (neg l) (blocked-by w a) (Old-or-own (getD lists-now k []) (w .clause) (a ∷ l ∷ q)) k hl", "push-every ws p (blocked-by w a) (Old-or-own (getD lists-now k []) (w .clause) (a ∷ l ∷ q)) k hp"),
         ("watching/specs/Lists.antt", "times-push-else ws (neg l) (blocked-by w a) c k hl", "times-push-else ws p (blocked-by w a) c k hp"),
+        ("watching/specs/Lists.antt", "bit-other k (neg (neg p)) (λ e. z (e ∙ neg-neg p)),", "bit-other k (neg (neg p)) (λ e. z (e ∙ neg-neg p)), bit-other k p z,"),
         ("watching/specs/Lists.antt", "times-push ws (neg l) (blocked-by w a) (w .clause) k hl", "times-push ws p (blocked-by w a) (w .clause) k hp"),
     ],
     "decision_traced_through": [

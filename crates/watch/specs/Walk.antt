@@ -1,5 +1,5 @@
 -- A walk through a list: the nodes passed that stayed, and those that are left.
-use Prim.Native.Nat.{ℕ, suc, _-_, _≤_, _<_}
+use Prim.Native.Nat.{ℕ, zero, suc, _+_, _-_, _≤_, _<_}
 use native.Mathlib.Omega.{arith}
 use mathlib.Core.Path.{_≡_, refl, sym, ap, _∙_, subst₂}
 use mathlib.Core.List.{List, [], _∷_, _++_, append-assoc}
@@ -13,6 +13,24 @@ use Rattle.watch.specs.declared.Prev.{Prev}
 use Rattle.watch.specs.declared.Prev.the-variants.{Start, After}
 use Rattle.watch.specs.declared.Cursor.{Cursor}
 
+-- the node before a cursor, from its field
+pub node-before : ℕ → Prev
+node-before zero = Start
+node-before (suc y) = After y
+
+pub node-before-start : node-before 0 ≡ Start
+unfolding node-before
+node-before-start = refl
+
+pub node-before-after : (x : ℕ) → node-before (x + 1) ≡ After x
+unfolding node-before
+node-before-after x = let e : x + 1 ≡ suc x = omega arith in rw e
+
+pub node-before-more : (p : ℕ) → 0 < p → node-before p ≡ After (p - 1)
+unfolding node-before
+node-before-more zero n = absurd (omega arith)
+node-before-more (suc y) n = ap After (omega arith)
+
 -- the last of the nodes that stayed
 abbrev pub behind : List ℕ → Prev
 behind [] = Start
@@ -20,7 +38,7 @@ behind (y ∷ ys) = After (getD (y ∷ ys) (length ys) 0)
 
 -- a cursor between the nodes kept and the rest
 pub record At (c : Cursor) (kept rest : List ℕ) : Type 0 where
-  pub prev : c .prev ≡ behind kept
+  pub prev : node-before (c .prev) ≡ behind kept
   pub cur : 0 < length rest → c .cur ≡ getD rest 0 0
   pub left : c .left ≡ length rest
 
@@ -29,22 +47,22 @@ behind-snoc [] x = refl
 behind-snoc (y ∷ ys) x = ap After (getD-at (y ∷ ys) x [] 0 (length (ys ++ (x ∷ []))) (sym (length-append ys (x ∷ []) ∙ omega arith)))
 
 -- where a walk starts
-pub at-start : (c : Cursor) (xs : List ℕ) → c .prev ≡ Start → (0 < length xs → c .cur ≡ getD xs 0 0) → c .left ≡ length xs → At c [] xs
+pub at-start : (c : Cursor) (xs : List ℕ) → node-before (c .prev) ≡ Start → (0 < length xs → c .cur ≡ getD xs 0 0) → c .left ≡ length xs → At c [] xs
 at-start c xs p q r = record { prev = p; cur = q; left = r }
 
 -- the node stays
-pub at-stays : (c r : Cursor) (kept : List ℕ) (x : ℕ) (rest : List ℕ) → At c kept (x ∷ rest) → r .prev ≡ After (c .cur) → (0 < length rest → r .cur ≡ getD rest 0 0) → r .left ≡ c .left - 1
+pub at-stays : (c r : Cursor) (kept : List ℕ) (x : ℕ) (rest : List ℕ) → At c kept (x ∷ rest) → node-before (r .prev) ≡ After (c .cur) → (0 < length rest → r .cur ≡ getD rest 0 0) → r .left ≡ c .left - 1
     → At r (kept ++ (x ∷ [])) rest
 at-stays c r kept x rest a p q n =
     record { prev = p ∙ ap After (a .cur (omega arith)) ∙ sym (behind-snoc kept x); cur = q; left = omega (arith, a .left) }
 
 -- the node goes
-pub at-goes : (c r : Cursor) (kept : List ℕ) (x : ℕ) (rest : List ℕ) → At c kept (x ∷ rest) → r .prev ≡ c .prev → (0 < length rest → r .cur ≡ getD rest 0 0) → r .left ≡ c .left - 1
+pub at-goes : (c r : Cursor) (kept : List ℕ) (x : ℕ) (rest : List ℕ) → At c kept (x ∷ rest) → node-before (r .prev) ≡ node-before (c .prev) → (0 < length rest → r .cur ≡ getD rest 0 0) → r .left ≡ c .left - 1
     → At r kept rest
 at-goes c r kept x rest a p q n = record { prev = p ∙ a .prev; cur = q; left = omega (arith, a .left) }
 
 -- the place that `unlink` is to find
-pub at-spot : (c : Cursor) (kept rest : List ℕ) → ((y : ℕ) → occ y (kept ++ rest) ≤ 1) → At c kept rest → spot (c .prev) (kept ++ rest) ≡ length kept
+pub at-spot : (c : Cursor) (kept rest : List ℕ) → ((y : ℕ) → occ y (kept ++ rest) ≤ 1) → At c kept rest → spot (node-before (c .prev)) (kept ++ rest) ≡ length kept
 at-spot c [] rest once a = rw (a .prev)
 at-spot c (y ∷ ys) rest once a =
     let xs = (y ∷ ys) ++ rest in
@@ -133,11 +151,11 @@ stands-at c kept rest a =
     }
 
 module _ (c : Cursor) (xs : List ℕ) (k : Stands c xs) where
-  pub stands-spot : ((y : ℕ) → occ y xs ≤ 1) → spot (c .prev) xs ≡ length xs - c .left
+  pub stands-spot : ((y : ℕ) → occ y xs ≤ 1) → spot (node-before (c .prev)) xs ≡ length xs - c .left
   stands-spot once =
       let same = parts-of (c .left) xs in
       let e = at-spot c (kept-of (c .left) xs) (rest-of (c .left) xs) (λ y. rw same (once y)) (k .at) in
-      ap (spot (c .prev)) (sym same) ∙ e ∙ kept-length (c .left) xs
+      ap (spot (node-before (c .prev))) (sym same) ∙ e ∙ kept-length (c .left) xs
 
   pub stands-cur : 0 < c .left → c .cur ≡ getD xs (length xs - c .left) 0
   stands-cur p =
@@ -156,12 +174,12 @@ module _ (c : Cursor) (xs : List ℕ) (k : Stands c xs) where
         next (omega (arith, rest-length n xs (omega (arith, low)), low))
         ∙ sym (getD-drop (length xs - n) xs 0 0 ∙ ap (λ i. getD xs i 0) (omega (arith, low)))
 
-    pub stands-stays : r .prev ≡ After (c .cur) → Stands r xs
+    pub stands-stays : node-before (r .prev) ≡ After (c .cur) → Stands r xs
     stands-stays p =
         let a = at-stays c r (kept-of (suc n) xs) (getD xs (length xs - suc n) 0) (rest-of n xs) split p first-left (omega arith) in
         record { inside = omega (arith, low); at = subst₂ (At r) (sym (ap (λ m. kept-of m xs) er ∙ kept-snoc n xs low 0)) (ap (λ m. rest-of m xs) (sym er)) a }
 
-    pub stands-goes : r .prev ≡ c .prev → Stands r (without (length xs - c .left) xs)
+    pub stands-goes : node-before (r .prev) ≡ node-before (c .prev) → Stands r (without (length xs - c .left) xs)
     stands-goes p =
         let a = at-goes c r (kept-of (suc n) xs) (getD xs (length xs - suc n) 0) (rest-of n xs) split p first-left (omega arith) in
         rw (e, without-is n xs low) (stands-at r (kept-of (suc n) xs) (rest-of n xs) a)

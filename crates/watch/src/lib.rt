@@ -6,7 +6,7 @@ ghost use Rattle.model.specs.Lit.{neg};
 ghost use lib.ListN.{length, getD};
 ghost use Rattle.watch.specs.View.{Room, Laid, cells, with-head, with-tail, with-count, with-next, with-blocker};
 ghost use Rattle.watch.specs.View.{Rep, Holds, view, list-of, place, spot, Next, Free, Under, appended, attached, unlinked, moved, blocked, emptied};
-ghost use Rattle.watch.specs.Walk.{Stands, Gone};
+ghost use Rattle.watch.specs.Walk.{node-before, Stands, Gone};
 use clause::Lit;
 
 // How many lists, two for each variable, and how many nodes, two for each clause that can be stored.
@@ -21,9 +21,10 @@ pub enum Prev {
     After(usize),
 }
 
-// A place on a walk through a list: its node, the node before it, and how many nodes are left from here on.
+// A place on a walk through a list: its node, the node before it plus one, or 0 where there is none, and how many nodes are left from here on.
+// A number and not `Prev`: the walk copies it at every node, and an enum with its padding.
 pub struct Cursor {
-    pub prev: Prev,
+    pub prev: usize,
     pub cur: usize,
     pub left: usize,
 }
@@ -269,6 +270,16 @@ pub fn start(d: Lists, s: &mut [u32])
     }
 }
 
+// The node before a cursor, from its field.
+fn node_before(p: usize) -> Prev
+    ensures { λ r. ⌜ r ≡ node-before p ⌝ }
+{
+    if p == 0 {
+        return Prev::Start;
+    }
+    Prev::After(p - 1)
+}
+
 // The cursor at the start of the list of l.
 pub fn walk(d: Lists, s: &[u32], l: Lit) -> Cursor
     requires { ⌜ Rep d (now s) ⌝ }
@@ -279,7 +290,7 @@ pub fn walk(d: Lists, s: &[u32], l: Lit) -> Cursor
     let x = head_at(d, s, p) as usize;
     let n = count_at(d, s, p) as usize;
     Cursor {
-        prev: Prev::Start,
+        prev: 0,
         cur: x,
         left: n,
     }
@@ -296,7 +307,7 @@ pub fn stay(d: Lists, s: &[u32], l: Lit, c: Cursor) -> Cursor
     let n = c.left;
     let y = next(d, s, x);
     Cursor {
-        prev: Prev::After(x),
+        prev: x + 1,
         cur: y,
         left: n - 1,
     }
@@ -313,7 +324,7 @@ pub fn leave(d: Lists, s: &mut [u32], l: Lit, c: Cursor, m: Lit, b: Lit) -> Curs
     let x = c.cur;
     let n = c.left;
     let y = next(d, s, x);
-    move_to(d, s, l, p, x, m, b);
+    move_to(d, s, l, node_before(p), x, m, b);
     Cursor {
         prev: p,
         cur: y,

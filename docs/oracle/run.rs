@@ -14,6 +14,7 @@ use std::time::Instant;
 pub struct Cost {
     pub conflicts: u64,
     pub restarts: u64,
+    pub decisions: u64,
     pub propagations: u64,
     pub micros: u128,
 }
@@ -87,6 +88,7 @@ pub fn run_with(script: &[u32], mut after: impl FnMut(After)) -> (Vec<u32>, Cost
     let cost = Cost {
         conflicts: solver.num_conflicts(),
         restarts: solver.num_restarts() - solves, // the Rust counts each search
+        decisions: solver.num_decisions(),
         propagations: solver.num_propagations(),
         micros: start.elapsed().as_micros(),
     };

@@ -1,21 +1,26 @@
-//! Times the engine (the static library) and the patched Rust on the same scripts, in one process.
+//! Measures the engine (the static library) and the patched Rust on the same scripts, in one run.
 //!
-//!   bench list KIND                  the scripts of a kind: timed, counted, growing
-//!   bench time KIND REPEATS          a line a script: what it costs on each side, the best of the repeats
-//!   bench once SIDE SCRIPT           one run on one side, for callgrind
+//!   bench table REPEATS              all tables, as docs/PERFORMANCE.md has them
+//!   bench once SIDE SCRIPT           one run on one side (engine, rust or heap), for callgrind
+//!   bench time SCRIPT REPEATS        seconds of both sides
+//!   bench cost SCRIPT                conflicts, decisions and propagations, patched and with the Rust's heap
 //!   bench dimacs SCRIPT              the formula as DIMACS, where the script is one formula and one solve
 //!
 //! C and L are what the run stores. The slices are allocated and written before the clock starts; what the
 //! engine fills at the start and clears at the end is in its time, and what the Rust allocates is in its own.
+//! The engine runs the same search as the patched Rust, so conflicts and propagations are those of both; that
+//! the out cells are the same is tested in each run. Times are seconds on a processor, the best of REPEATS.
 
 #[path = "../tools/shapes.rs"]
 #[allow(dead_code)]
 mod shapes;
 
 use shapes::{colouring, k_sat, parity, pigeons, queens, tseitin, Formula, Record, Rng, Script};
+use std::process::{Command, Stdio};
 
 extern "C" {
     fn clock_gettime(clock: i32, at: *mut [i64; 2]) -> i32;
+    fn getrusage(who: i32, usage: *mut [i64; 18]) -> i32;
     fn engine_run(
         script: *const u32,
         script_len: usize,
@@ -31,13 +36,23 @@ extern "C" {
 
 const BUDGET: u32 = 1_000_000;
 
-/// Seconds of this thread on a processor, so that others waiting for it count less.
+/// Seconds of this thread on a processor.
 fn seconds() -> f64 {
     const CLOCK_THREAD_CPUTIME_ID: i32 = 3;
     let mut at = [0; 2];
     assert_eq!(unsafe { clock_gettime(CLOCK_THREAD_CPUTIME_ID, &mut at) }, 0);
     at[0] as f64 + at[1] as f64 / 1e9
 }
+
+/// The same of the programs that were run.
+fn seconds_of_children() -> f64 {
+    const RUSAGE_CHILDREN: i32 = -1;
+    let mut usage = [0; 18];
+    assert_eq!(unsafe { getrusage(RUSAGE_CHILDREN, &mut usage) }, 0);
+    (usage[0] + usage[2]) as f64 + (usage[1] + usage[3]) as f64 / 1e6
+}
+
+// ---- the scripts
 
 struct Named {
     family: &'static str,
@@ -51,66 +66,73 @@ fn one(family: &'static str, name: String, f: Formula, budget: u32) -> Named {
     Named { family, name, script: Script { vars: f.vars, mode: 2, phase: 2, unit: 100, records } }
 }
 
-/// Solves under assumptions, a few clauses between them.
-fn incremental(name: String, seed: u64, vars: u32, solves: u32) -> Named {
+/// Solves under assumptions, a clause between them.
+fn incremental(seed: u64, vars: u32, solves: u32) -> Named {
     let mut rng = Rng(seed);
     let f = k_sat(&mut rng, vars, 3, 3.8);
     let mut records: Vec<Record> = f.clauses.into_iter().map(Record::Clause).collect();
     for _ in 0..solves {
         let assumed = k_sat(&mut rng, vars, 8, 1.0 / vars as f64).clauses.remove(0);
         records.push(Record::Solve(assumed, BUDGET));
-        for c in k_sat(&mut rng, vars, 3, 1.0 / vars as f64).clauses {
-            records.push(Record::Clause(c));
-        }
+        records.push(Record::Clause(k_sat(&mut rng, vars, 3, 1.0 / vars as f64).clauses.remove(0)));
     }
-    Named { family: "incremental", name, script: Script { vars, mode: 2, phase: 2, unit: 100, records } }
+    let script = Script { vars, mode: 2, phase: 2, unit: 100, records };
+    Named { family: "assumptions", name: format!("assumed-{}-{}", vars, seed), script }
 }
 
 fn sat(vars: u32, seed: u64) -> Named {
     one("random 3-SAT", format!("sat-{}-{}", vars, seed), k_sat(&mut Rng(seed), vars, 3, 4.26), BUDGET)
 }
 
+fn holes(n: u32) -> Named {
+    one("pigeonhole", format!("pigeons-{}", n), pigeons(n + 1, n), BUDGET)
+}
+
+fn charges(half: u32, seed: u64) -> Named {
+    one("parity", format!("tseitin-{}-{}", half, seed), tseitin(&mut Rng(seed), half, true), BUDGET)
+}
+
+fn equations(vars: u32, seed: u64) -> Named {
+    one("parity", format!("parity-{}-{}", vars, seed), parity(&mut Rng(seed), vars, 3, 1.0), BUDGET)
+}
+
+fn colours(n: u32, seed: u64) -> Named {
+    let f = colouring(&mut Rng(seed), n, n * 235 / 100, 3, true);
+    one("colouring", format!("colours-{}-{}", n, seed), f, BUDGET)
+}
+
+fn board(n: u32) -> Named {
+    one("n-queens", format!("queens-{}", n), queens(n), BUDGET)
+}
+
 fn timed() -> Vec<Named> {
-    let mut all = vec![];
-    for (vars, seed) in [(100, 1), (150, 1), (150, 2), (200, 1), (200, 2), (250, 1)] {
-        all.push(sat(vars, seed));
-    }
-    for holes in [7, 8] {
-        all.push(one("pigeonhole", format!("pigeons-{}", holes), pigeons(holes + 1, holes), BUDGET));
-    }
-    for half in [14, 17] {
-        all.push(one("parity", format!("tseitin-{}", half), tseitin(&mut Rng(half as u64), half, true), BUDGET));
-    }
-    for vars in [48, 60] {
-        all.push(one("parity", format!("parity-{}", vars), parity(&mut Rng(vars as u64), vars, 3, 1.0), BUDGET));
-    }
-    for (n, seed) in [(120, 1), (160, 2), (200, 3)] {
-        let f = colouring(&mut Rng(seed), n, n * 235 / 100, 3, true);
-        all.push(one("colouring", format!("colours-{}", n), f, BUDGET));
-    }
-    for n in [12, 20, 28] {
-        all.push(one("n-queens", format!("queens-{}", n), queens(n), BUDGET));
-    }
-    all.push(incremental("assumed-150".to_string(), 1, 150, 60));
-    all.push(incremental("assumed-200".to_string(), 2, 200, 60));
-    all
+    vec![
+        sat(100, 1),
+        sat(150, 1),
+        sat(200, 1),
+        sat(250, 1),
+        holes(7),
+        holes(8),
+        charges(20, 2),
+        charges(24, 2),
+        equations(110, 1),
+        colours(120, 1),
+        colours(250, 1),
+        colours(400, 3),
+        board(12),
+        board(20),
+        board(28),
+        incremental(1, 150, 60),
+        incremental(2, 200, 60),
+    ]
 }
 
 /// Small enough for callgrind.
 fn counted() -> Vec<Named> {
-    vec![
-        sat(100, 1),
-        sat(150, 1),
-        one("pigeonhole", "pigeons-6".to_string(), pigeons(7, 6), BUDGET),
-        one("parity", "tseitin-10".to_string(), tseitin(&mut Rng(10), 10, true), BUDGET),
-        one("parity", "parity-48".to_string(), parity(&mut Rng(48), 48, 3, 1.0), BUDGET),
-        one("colouring", "colours-120".to_string(), colouring(&mut Rng(1), 120, 282, 3, true), BUDGET),
-        one("n-queens", "queens-12".to_string(), queens(12), BUDGET),
-        incremental("assumed-100".to_string(), 3, 100, 30),
-    ]
+    vec![sat(150, 1), holes(6), charges(18, 1), colours(250, 1), board(20), incremental(3, 100, 30)]
 }
 
-/// Random 3-SAT at one ratio and a budget, for more and more variables.
+/// Random 3-SAT at one ratio and with one budget, for more and more variables.
 fn growing() -> Vec<Named> {
     [64, 128, 256, 512, 1024, 2048, 4096]
         .map(|vars| one("growing", format!("grow-{}", vars), k_sat(&mut Rng(7), vars, 3, 4.26), 1000))
@@ -118,21 +140,29 @@ fn growing() -> Vec<Named> {
         .collect()
 }
 
-fn kind(name: &str) -> Vec<Named> {
-    match name {
-        "timed" => timed(),
-        "counted" => counted(),
-        "growing" => growing(),
-        _ => panic!("timed, counted or growing"),
-    }
-}
-
 fn find(name: &str) -> Named {
     let all = timed().into_iter().chain(counted()).chain(growing());
     all.into_iter().find(|n| n.name == name).expect("a script's name")
 }
 
-// ---- the two sides
+/// The formula, where the script is one formula and one solve without assumptions.
+fn dimacs(script: &Script) -> Option<String> {
+    let (last, rest) = script.records.split_last()?;
+    if !matches!(last, Record::Solve(lits, _) if lits.is_empty()) {
+        return None;
+    }
+    let mut text = format!("p cnf {} {}\n", script.vars, rest.len());
+    for r in rest {
+        let Record::Clause(lits) = r else { return None };
+        for l in lits {
+            text += &format!("{}{} ", if l & 1 == 1 { "-" } else { "" }, (l >> 1) + 1);
+        }
+        text += "0\n";
+    }
+    Some(text)
+}
+
+// ---- the sides
 
 struct Lent {
     script: Vec<u32>,
@@ -141,19 +171,21 @@ struct Lent {
     out: Vec<u32>,
 }
 
-fn lent(script: &Script, clauses: u32, literals: u32) -> Lent {
-    let cells = script.cells(clauses, literals);
+/// C and L are what the run stores.
+fn lent(script: &Script) -> Lent {
+    let mut stored = (0, 0);
+    oracle::run_with(&script.cells(0, 0), |a| stored = (a.clauses, a.literals));
+    assert!(stored.0 <= 65535 && stored.1 <= 1048576, "{} clauses, {} literals", stored.0, stored.1);
     let vars = script.vars as usize;
     let solves = script.records.iter().filter(|r| matches!(r, Record::Solve(..))).count();
     Lent {
-        script: cells,
-        work: vec![1; 32 * vars + 8 * clauses as usize + literals as usize + 64],
+        script: script.cells(stored.0 as u32, stored.1 as u32),
+        work: vec![1; 32 * vars + 8 * stored.0 as usize + stored.1 as usize + 64],
         activities: vec![1.0; vars],
         out: vec![1; script.records.len() - solves + solves * (vars + 4)],
     }
 }
 
-#[inline(never)]
 fn engine(l: &mut Lent) -> Vec<u32> {
     let mut refusal = 0;
     let n = unsafe {
@@ -180,86 +212,184 @@ fn rust_run(cells: &[u32]) -> (Vec<u32>, oracle::Cost) {
     oracle::run(cells)
 }
 
-/// What the run stores: C and L.
-fn stored(script: &Script) -> (u32, u32) {
-    let mut last = (0, 0);
-    oracle::run_with(&script.cells(0, 0), |a| last = (a.clauses, a.literals));
-    assert!(last.0 <= 65535 && last.1 <= 1048576, "{} clauses, {} literals", last.0, last.1);
-    (last.0 as u32, last.1 as u32)
+/// The Rust with its heap: its picks are others where activities tie, so its search is another.
+#[no_mangle]
+#[inline(never)]
+fn heap_run(cells: &[u32]) -> (Vec<u32>, oracle_heap::Cost) {
+    oracle_heap::run(cells)
 }
 
-fn time(kind_name: &str, repeats: u32) {
-    for n in kind(kind_name) {
-        let (clauses, literals) = stored(&n.script);
-        let mut l = lent(&n.script, clauses, literals);
-        let (mut best_engine, mut best_rust) = (f64::MAX, f64::MAX);
-        let mut cost = oracle::Cost::default();
-        let mut same = true;
-        for _ in 0..repeats {
-            let start = seconds();
-            let ours = engine(&mut l);
-            best_engine = best_engine.min(seconds() - start);
-            let start = seconds();
-            let (theirs, c) = rust_run(&l.script);
-            best_rust = best_rust.min(seconds() - start);
-            same &= ours == theirs;
-            cost = c;
-        }
-        println!(
-            "family={} name={} vars={} clauses={} stored={} literals={} conflicts={} decisions={} propagations={} engine={:.6} rust={:.6} same={}",
-            n.family.replace(' ', "_"),
-            n.name,
-            n.script.vars,
-            n.script.records.iter().filter(|r| matches!(r, Record::Clause(_))).count(),
-            clauses,
-            literals,
-            cost.conflicts,
-            cost.decisions,
-            cost.propagations,
-            best_engine,
-            best_rust,
-            same
-        );
-    }
-}
-
-fn once(side: &str, name: &str) {
-    let n = find(name);
-    let (clauses, literals) = stored(&n.script);
-    let mut l = lent(&n.script, clauses, literals);
+fn once(side: &str, script: &Script) {
+    let mut l = lent(script);
     match side {
         "engine" => assert!(!engine(&mut l).is_empty()),
         "rust" => assert!(!rust_run(&l.script).0.is_empty()),
-        _ => panic!("engine or rust"),
+        "heap" => assert!(!heap_run(&l.script).0.is_empty()),
+        _ => panic!("engine, rust or heap"),
     }
 }
 
-fn dimacs(name: &str) {
-    let n = find(name);
-    let mut clauses = vec![];
-    for (i, r) in n.script.records.iter().enumerate() {
-        match r {
-            Record::Clause(lits) => clauses.push(lits),
-            Record::Solve(lits, _) => assert!(lits.is_empty() && i + 1 == n.script.records.len(), "more than a formula"),
-        }
+/// The best time of each side, and the Rust's cost.
+fn times(script: &Script, repeats: u32) -> (f64, f64, oracle::Cost) {
+    let mut l = lent(script);
+    let mut best = (f64::MAX, f64::MAX);
+    let mut cost = oracle::Cost::default();
+    for _ in 0..repeats {
+        let start = seconds();
+        let ours = engine(&mut l);
+        let between = seconds();
+        let (theirs, c) = rust_run(&l.script);
+        best = (best.0.min(between - start), best.1.min(seconds() - between));
+        assert!(ours == theirs, "the answers differ");
+        cost = c;
     }
-    println!("p cnf {} {}", n.script.vars, clauses.len());
-    for c in clauses {
-        for l in c {
-            print!("{}{} ", if l & 1 == 1 { "-" } else { "" }, (l >> 1) + 1);
-        }
-        println!("0");
+    (best.0, best.1, cost)
+}
+
+// ---- other programs
+
+fn said(command: &mut Command) -> Option<String> {
+    let output = command.stdin(Stdio::null()).output().ok()?;
+    Some(String::from_utf8_lossy(&output.stdout).into_owned() + &String::from_utf8_lossy(&output.stderr))
+}
+
+/// Instructions of one run on a side.
+fn instructions(side: &str, name: &str) -> Option<u64> {
+    let me = std::env::current_exe().expect("this program");
+    let text = said(
+        Command::new("valgrind")
+            .args(["--tool=callgrind", "--callgrind-out-file=/dev/null"])
+            .arg(format!("--toggle-collect={}_run", side))
+            .arg(me)
+            .args(["once", side, name]),
+    )?;
+    text.lines().find_map(|l| l.split("Collected : ").nth(1)?.trim().parse().ok())
+}
+
+/// Seconds and conflicts of another solver, where it is installed.
+fn other(program: &str, words: &[&str], file: &str, repeats: u32) -> Option<(f64, String)> {
+    let mut best = f64::MAX;
+    let mut conflicts = String::new();
+    for _ in 0..repeats {
+        let start = seconds_of_children();
+        let text = said(Command::new(program).args(words).arg(file))?;
+        best = best.min(seconds_of_children() - start);
+        let line = text.lines().find(|l| l.contains("conflicts") && l.contains(':')).unwrap_or("");
+        conflicts = line.split(':').nth(1).and_then(|t| t.split_whitespace().next()).unwrap_or("?").to_string();
     }
+    Some((best, conflicts))
+}
+
+// ---- the tables
+
+/// The geometric mean over the families of each family's geometric mean.
+fn mean(ratios: &[(&str, f64)]) -> f64 {
+    let mut families: Vec<&str> = ratios.iter().map(|r| r.0).collect();
+    families.dedup();
+    let of = |family: &str| {
+        let logs: Vec<f64> = ratios.iter().filter(|r| r.0 == family).map(|r| r.1.ln()).collect();
+        logs.iter().sum::<f64>() / logs.len() as f64
+    };
+    (families.iter().map(|f| of(f)).sum::<f64>() / families.len() as f64).exp()
+}
+
+fn timed_table(repeats: u32) {
+    println!("| family | script | V | conflicts | propagations | engine s | Rust s | engine/Rust | minisat s (conflicts) | cadical s (conflicts) |");
+    println!("|---|---|---|---|---|---|---|---|---|---|");
+    let mut ratios = vec![];
+    for n in timed() {
+        let (ours, theirs, cost) = times(&n.script, repeats);
+        ratios.push((n.family, ours / theirs));
+        let file = std::env::temp_dir().join(format!("bench-{}.cnf", std::process::id()));
+        let file = file.to_str().expect("a path");
+        let mut others = vec![];
+        for (program, words) in [("minisat", vec![]), ("cadical", vec!["-n"])] {
+            let cell = match dimacs(&n.script) {
+                None => None,
+                Some(text) => {
+                    std::fs::write(file, text).expect("a file to write");
+                    other(program, &words, file, repeats)
+                }
+            };
+            others.push(cell.map_or("-".to_string(), |(s, c)| format!("{:.3} ({})", s, c)));
+        }
+        let _ = std::fs::remove_file(file);
+        println!(
+            "| {} | {} | {} | {} | {} | {:.4} | {:.4} | {:.2} | {} | {} |",
+            n.family, n.name, n.script.vars, cost.conflicts, cost.propagations, ours, theirs, ours / theirs, others[0], others[1]
+        );
+    }
+    println!("\nGeometric mean over the families of engine/Rust: {:.3}\n", mean(&ratios));
+}
+
+fn counted_table() {
+    println!("| family | script | conflicts | propagations | instructions, engine | instructions, Rust | engine/Rust | engine for a propagation | Rust for a propagation |");
+    println!("|---|---|---|---|---|---|---|---|---|");
+    let mut ratios = vec![];
+    for n in counted() {
+        let cost = rust_run(&n.script.cells(0, 0)).1;
+        let (Some(ours), Some(theirs)) = (instructions("engine", &n.name), instructions("rust", &n.name)) else {
+            println!("\nNo valgrind: nothing is counted.");
+            return;
+        };
+        let (a, b, p) = (ours as f64, theirs as f64, cost.propagations as f64);
+        ratios.push((n.family, a / b));
+        println!(
+            "| {} | {} | {} | {} | {} | {} | {:.3} | {:.0} | {:.0} |",
+            n.family, n.name, cost.conflicts, cost.propagations, ours, theirs, a / b, a / p, b / p
+        );
+    }
+    println!("\nGeometric mean over the families of engine/Rust: {:.3}\n", mean(&ratios));
+}
+
+fn growing_table(repeats: u32) {
+    println!("| V | conflicts | decisions | propagations | engine: instructions for a propagation, a decision, a conflict | Rust: the same | with its heap: the same | engine ms | Rust ms |");
+    println!("|---|---|---|---|---|---|---|---|---|");
+    for n in growing() {
+        let (ours, theirs, cost) = times(&n.script, repeats);
+        let heap = heap_run(&n.script.cells(0, 0)).1;
+        let counts = |side: &str, c: u64, d: u64, p: u64| match instructions(side, &n.name) {
+            None => "-".to_string(),
+            Some(i) => format!("{}, {}, {}", i / p, i / d, i / c),
+        };
+        println!(
+            "| {} | {} | {} | {} | {} | {} | {} | {:.2} | {:.2} |",
+            n.script.vars,
+            cost.conflicts,
+            cost.decisions,
+            cost.propagations,
+            counts("engine", cost.conflicts, cost.decisions, cost.propagations),
+            counts("rust", cost.conflicts, cost.decisions, cost.propagations),
+            counts("heap", heap.conflicts, heap.decisions, heap.propagations),
+            ours * 1e3,
+            theirs * 1e3
+        );
+    }
+    println!();
 }
 
 fn main() {
     let args: Vec<String> = std::env::args().skip(1).collect();
     let words: Vec<&str> = args.iter().map(|a| a.as_str()).collect();
     match words[..] {
-        ["list", k] => kind(k).iter().for_each(|n| println!("{} {}", n.name, n.family.replace(' ', "_"))),
-        ["time", k, repeats] => time(k, repeats.parse().expect("a number")),
-        ["once", side, name] => once(side, name),
-        ["dimacs", name] => dimacs(name),
+        ["table", repeats] => {
+            let repeats = repeats.parse().expect("a number");
+            timed_table(repeats);
+            counted_table();
+            growing_table(repeats);
+        }
+        ["once", side, name] => once(side, &find(name).script),
+        ["time", name, repeats] => {
+            let (ours, theirs, _) = times(&find(name).script, repeats.parse().expect("a number"));
+            println!("{} engine={:.6} rust={:.6} ratio={:.3}", name, ours, theirs, ours / theirs);
+        }
+        ["cost", name] => {
+            let cells = find(name).script.cells(0, 0);
+            let (a, b) = (rust_run(&cells).1, heap_run(&cells).1);
+            println!("patched: conflicts={} decisions={} propagations={}", a.conflicts, a.decisions, a.propagations);
+            println!("heap: conflicts={} decisions={} propagations={}", b.conflicts, b.decisions, b.propagations);
+        }
+        ["dimacs", name] => print!("{}", dimacs(&find(name).script).expect("one formula and one solve")),
         _ => panic!("see the head of bench.rs"),
     }
 }

@@ -1,3 +1,4 @@
+pub mod Tests
 pub mod Visit
 pub mod View
 pub mod Laws

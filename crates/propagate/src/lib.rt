@@ -3,7 +3,7 @@ ghost use mathlib.Core.Path.{_≡_};
 ghost use mathlib.Core.List.{[]};
 ghost use Prim.Native.Nat.{_+_, _*_, _/_, _≤_, _<_};
 ghost use lib.ListN.{length, getD, drop};
-ghost use Rattle.model.specs.Lit.{neg, value-lit};
+ghost use Rattle.model.specs.Lit.{var, neg, value-lit, is-true, is-false};
 ghost use Rattle.model.specs.Propagate.{false-second, new-watch, visit, propagate};
 ghost use Rattle.lawbase.specs.Basics.{_∈_};
 ghost use Rattle.trail.specs.View.{LitsOf};
@@ -39,6 +39,26 @@ pub struct Step {
     pub clash: bool,
 }
 
+// Whether p is true. A value is 0, 1 or 2, so one test says it.
+fn is_true(d: Sizes, h: Header, work: &[u32], p: Lit) -> bool
+    requires { ⌜ Rep d h (now work) ⌝ }
+    requires { ⌜ var (p .0) < d .vars ⌝ }
+    ensures { λ r. ⌜ r ≡ is-true (whole d h (now (work .entry)) .assignment .vars .values) (p .0) ⌝ }
+{
+    let x = assignment::var_value(d, h, work, p.var());
+    x == p.sign()
+}
+
+// Whether p is false, alike.
+fn is_false(d: Sizes, h: Header, work: &[u32], p: Lit) -> bool
+    requires { ⌜ Rep d h (now work) ⌝ }
+    requires { ⌜ var (p .0) < d .vars ⌝ }
+    ensures { λ r. ⌜ r ≡ is-false (whole d h (now (work .entry)) .assignment .vars .values) (p .0) ⌝ }
+{
+    let x = assignment::var_value(d, h, work, p.var());
+    x + p.sign() == 1
+}
+
 // Clause c has its false literal f second.
 fn false_second(d: Sizes, h: Header, work: &mut [u32], c: usize, f: Lit)
     requires { ⌜ Rep d h (now work) ⌝ }
@@ -66,7 +86,7 @@ fn new_watch(d: Sizes, h: Header, work: &[u32], c: usize) -> usize
     let mut k = 2;
     while k < n {
         let l = Lit(part[k]);
-        if assignment::value(d, h, work, l) != 1 {
+        if !is_false(d, h, work, l) {
             return k;
         }
         k += 1;
@@ -170,7 +190,7 @@ fn look(g: Config, h: Header, work: &mut [u32], p: Lit, c: Cursor) -> Step
     let d = g.sizes;
     let x = c.cur;
     let b = watches::blocker(d, h, work, x);
-    if assignment::value(d, h, work, b) == 0 {
+    if is_true(d, h, work, b) {
         let r = watches::stay(d, h, work, p, c);
         return Step {
             head: h,

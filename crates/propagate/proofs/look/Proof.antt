@@ -3,8 +3,7 @@ use native.Mathlib.Omega.{arith}
 use mathlib.Core.Path.{sym, ap, _∙_}
 use lib.ListN.{getD}
 use borrow.Author.Needs.{needs}
-use borrow.Author.Tests.{eq-eqb, ne-eqb}
-use Rattle.model.specs.Lit.{value-lit}
+use Rattle.model.specs.Lit.{is-true}
 use Rattle.state.specs.View.{whole}
 use Rattle.propagate.specs.Laws.{cursor-room}
 use Rattle.propagate.specs.Walking.{in-range, blocker-var, clause-two}
@@ -19,8 +18,8 @@ blocker-requires c κs =
     let p = c3 .pre in
     (p .0 .still .rep, cursor-room (a .g .sizes) (a .h) (a .work .now) (p .0 .still .rep) (a .p .0) (in-range (a .g) (a .h) (a .work .now) (a .p .0) (a .c) (p .0) (a .c .left - 1) (omega (arith, p .1))) (a .c) (p .0 .stands) (p .1))
 
-value-requires : tie.Need-value-requires
-value-requires c κs =
+is-true-requires : tie.Need-is-true-requires
+is-true-requires c κs =
     let c1 = c .before in
     let c5 = c1 .before .before .before .before in
     let a = c5 .args in
@@ -47,8 +46,7 @@ returns c =
     let p = c9 .pre in
     let x = whole (a .g .sizes) (a .h) (a .work .now) in
     looked-blocked (a .g) (a .h) (a .work .now) (a .p .0) (a .c) (p .0) (c .stay .result)
-    (eq-eqb (value-lit (x .assignment .vars .values) (getD (x .watches .blockers) (a .c .cur) 0)) 0
-    (ap (value-lit (x .assignment .vars .values)) (sym (c5 .blocker .ensures)) ∙ sym (c3 .value .ensures) ∙ c2 .if1 .taken))
+    (ap (is-true (x .assignment .vars .values)) (sym (c5 .blocker .ensures)) ∙ sym (c3 .is-true .ensures) ∙ c2 .if1 .taken)
     (c .stay .ensures .0) (c .stay .ensures .1)
 
 negate-requires : tie.Need-negate-requires
@@ -88,8 +86,7 @@ returns-2 c =
     let x = whole (a .g .sizes) (a .h) (a .work .now) in
     let u = seconded-as (a .g) (a .h) (a .work .now) (a .p .0) (a .c) (p .0) (c7 .negate .result .0) (c7 .negate .ensures) (c6 .false-second .ensures) in
     looked (a .g) (a .h) (a .work .now) (a .p .0) (a .c) (p .0) _ u _ _
-    (ne-eqb (value-lit (x .assignment .vars .values) (getD (x .watches .blockers) (a .c .cur) 0)) 0
-    (λ q. c9 .if1 .left (c10 .value .ensures ∙ ap (value-lit (x .assignment .vars .values)) (c12 .blocker .ensures) ∙ q)))
+    (ap (is-true (x .assignment .vars .values)) (sym (c12 .blocker .ensures)) ∙ sym (c10 .is-true .ensures) ∙ c9 .if1 .left)
     (c2 .look-clause .ensures)
 
 pub look-spec : {M : Type 1} → statement M
@@ -97,7 +94,7 @@ look-spec =
     tie.close
     (tie.spec
     blocker-requires
-    value-requires
+    is-true-requires
     stay-requires
     same-length
     returns

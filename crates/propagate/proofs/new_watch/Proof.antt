@@ -1,9 +1,10 @@
 use Prim.Native.Nat.{_-_, _≤_, _<_}
 use native.Mathlib.Omega.{arith}
 use mathlib.Core.Path.{_≡_, refl, sym, ap, _∙_}
+use mathlib.Core.Bool.{true, false}
 use lib.ListN.{length, getD, drop}
-use borrow.Author.Tests.{eq-eqb, ne-eqb}
-use Rattle.model.specs.Lit.{value-lit}
+use borrow.Author.Tests.{not-true, not-false}
+use Rattle.model.specs.Lit.{is-false}
 use Rattle.model.specs.Propagate.{new-watch}
 use Rattle.store.specs.View.{clause-of}
 use Rattle.state.specs.View.{whole}
@@ -32,14 +33,14 @@ clause-requires c κs =
 loop-holds : tie.Need-loop-holds Inv-loop μ-loop
 loop-holds c = (c .clause .ensures, refl, omega arith, refl)
 
-mul-if1 : tie.Need-mul-if1 Inv-loop μ-loop
-mul-if1 c = omega arith
+mul-t10 : tie.Need-mul-t10 Inv-loop μ-loop
+mul-t10 c = omega arith
 
-shared-slice-read-if1 : tie.Need-shared-slice-read-if1 Inv-loop μ-loop
-shared-slice-read-if1 c = omega arith
+shared-slice-read-t12 : tie.Need-shared-slice-read-t12 Inv-loop μ-loop
+shared-slice-read-t12 c = omega arith
 
-value-requires : tie.Need-value-requires Inv-loop μ-loop
-value-requires c κs =
+is-false-requires : tie.Need-is-false-requires Inv-loop μ-loop
+is-false-requires c κs =
     let c1 = c .before in
     let c2 = c1 .before in
     let p = c2 .before .before .before .pre in
@@ -56,7 +57,8 @@ returns c =
     let x = whole (a .d) (a .h) (a .work .now) in
     let l = clause-of (x .clauses) (a .c) in
     let n : i .k < length l = omega (arith, ap length (i .inv .0), i .inv .1, c3 .loop-test .taken) in
-    ap (place-of (length l)) (sym (search-here (x .assignment .vars .values) l (i .k) n (ne-eqb (value-lit (x .assignment .vars .values) (getD l (i .k) 0)) 1 (λ q. c .if1 .taken (c1 .value .ensures ∙ rw (i .inv .0) q)))) ∙ i .inv .3)
+    let v : is-false (x .assignment .vars .values) (getD l (i .k) 0) ≡ false = rw (i .inv .0) at (sym (c1 .is-false .ensures) ∙ not-true (c1 .is-false .result) (c .if1 .taken)) in
+    ap (place-of (length l)) (sym (search-here (x .assignment .vars .values) l (i .k) n v) ∙ i .inv .3)
 
 add-k : tie.Need-add-k Inv-loop μ-loop
 add-k c = omega arith
@@ -74,8 +76,8 @@ loop-again c =
     let x = whole (a .d) (a .h) (a .work .now) in
     let l = clause-of (x .clauses) (a .c) in
     let n : i .k < length l = omega (arith, ap length (i .inv .0), i .inv .1, c3 .loop-test .taken) in
-    let v : value-lit (x .assignment .vars .values) (getD l (i .k) 0) ≡ 1 = rw (i .inv .0) at (sym (c1 .value .ensures) ∙ c .if1 .left) in
-    (i .inv .0, i .inv .1, omega arith, sym (search-next (x .assignment .vars .values) l (i .k) n (eq-eqb (value-lit (x .assignment .vars .values) (getD l (i .k) 0)) 1 v)) ∙ i .inv .3)
+    let v : is-false (x .assignment .vars .values) (getD l (i .k) 0) ≡ true = rw (i .inv .0) at (sym (c1 .is-false .ensures) ∙ not-false (c1 .is-false .result) (c .if1 .left)) in
+    (i .inv .0, i .inv .1, omega arith, sym (search-next (x .assignment .vars .values) l (i .k) n v) ∙ i .inv .3)
 
 returns-2 : tie.Need-returns-2 Inv-loop μ-loop
 returns-2 c =
@@ -95,9 +97,9 @@ new-watch-spec =
     μ-loop
     clause-requires
     loop-holds
-    mul-if1
-    shared-slice-read-if1
-    value-requires
+    mul-t10
+    shared-slice-read-t12
+    is-false-requires
     returns
     add-k
     loop-less

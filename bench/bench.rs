@@ -11,6 +11,9 @@
 //! The engine runs the same search as the patched Rust, so conflicts and propagations are those of both; that
 //! the out cells are the same is tested in each run. Times are seconds on a processor, the best of REPEATS.
 
+#[path = "../bindings/rust/engine.rs"]
+#[allow(dead_code)]
+mod binding;
 #[path = "../tools/shapes.rs"]
 #[allow(dead_code)]
 mod shapes;
@@ -21,17 +24,6 @@ use std::process::{Command, Stdio};
 extern "C" {
     fn clock_gettime(clock: i32, at: *mut [i64; 2]) -> i32;
     fn getrusage(who: i32, usage: *mut [i64; 18]) -> i32;
-    fn engine_run(
-        script: *const u32,
-        script_len: usize,
-        work: *mut u32,
-        work_len: usize,
-        activities: *mut f64,
-        activities_len: usize,
-        out: *mut u32,
-        out_len: usize,
-        refusal: *mut u32,
-    ) -> u64;
 }
 
 const BUDGET: u32 = 1_000_000;
@@ -187,21 +179,7 @@ fn lent(script: &Script) -> Lent {
 }
 
 fn engine(l: &mut Lent) -> Vec<u32> {
-    let mut refusal = 0;
-    let n = unsafe {
-        engine_run(
-            l.script.as_ptr(),
-            l.script.len(),
-            l.work.as_mut_ptr(),
-            l.work.len(),
-            l.activities.as_mut_ptr(),
-            l.activities.len(),
-            l.out.as_mut_ptr(),
-            l.out.len(),
-            &mut refusal,
-        )
-    };
-    assert_eq!(refusal, 0);
+    let n = binding::run(&l.script, &mut l.work, &mut l.activities, &mut l.out).expect("accepted");
     l.out[..n as usize].to_vec()
 }
 

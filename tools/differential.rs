@@ -9,6 +9,9 @@
 //! The first failing scripts are made smaller and written to mismatch.txt in the folder of the run, smallest first;
 //! with SHRINK=0 in the environment, as they are.
 
+#[path = "../bindings/rust/engine.rs"]
+#[allow(dead_code)]
+mod binding;
 mod shapes;
 
 use oracle::After;
@@ -16,20 +19,6 @@ use shapes::{smaller, Record, Rng, Script};
 use std::fmt::Write as _;
 use std::io::Write as _;
 use std::time::Instant;
-
-extern "C" {
-    fn engine_run(
-        script: *const u32,
-        script_len: usize,
-        work: *mut u32,
-        work_len: usize,
-        activities: *mut f64,
-        activities_len: usize,
-        out: *mut u32,
-        out_len: usize,
-        refusal: *mut u32,
-    ) -> u64;
-}
 
 // ---- the engine
 
@@ -77,7 +66,7 @@ impl Lent {
     fn run(&mut self, script: &[u32]) -> (u32, u64) {
         let mut refusal = 77;
         let result = unsafe {
-            engine_run(
+            binding::c::engine_run(
                 script.as_ptr(),
                 script.len(),
                 self.work.as_mut_ptr(),

@@ -1,6 +1,7 @@
 //! The SAT engine from Rust, over target/staticlib/libengine.a. include/engine.h says what the C functions ask of a caller; the borrow checker sees to it here.
 
-mod c {
+/// The functions as include/engine.h has them.
+pub mod c {
     extern "C" {
         pub fn engine_run(
             script: *const u32,

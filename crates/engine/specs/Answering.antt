@@ -19,7 +19,7 @@ use Rattle.script.specs.Accepted.{Accepted, judged-refused, accepted-read}
 use Rattle.laws.specs.Theorems.{demand-3}
 use Rattle.engine.specs.declared.Answer as Answer
 use Rattle.engine.specs.declared.Answer.{Answer}
-use Rattle.engine.specs.Recording.{Written}
+use Rattle.records.specs.Recording.{Written}
 use Rattle.engine.specs.Numbers.{refused-numbered}
 use Rattle.engine.specs.Runs.{answer-of, number-of, value-of, Runs, Gives}
 

@@ -4,9 +4,9 @@ use mathlib.Core.Path.{_≡_, refl, ap, _∙_}
 use lib.ListN.{length}
 use borrow.Author.Needs.{needs}
 use Rattle.reader.specs.declared.Seen.{Seen}
-use Rattle.engine.specs.Recording.{Recording, recording-start, recording-whole, recording-fits, record-seen, recording-step, recording-end}
-use Rattle.engine.proofs.records.Statement.{statement}
-use Rattle.engine.proofs.records.Tie as tie
+use Rattle.records.specs.Recording.{Recording, recording-start, recording-whole, recording-fits, record-seen, recording-step, recording-end}
+use Rattle.records.proofs.records.Statement.{statement}
+use Rattle.records.proofs.records.Tie as tie
 
 abbrev Inv-loop : tie.InvT-loop
 Inv-loop g script work₀ act₀ out₀ inc x₀ at₀ o₀ work act out x at o =

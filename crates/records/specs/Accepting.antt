@@ -15,7 +15,7 @@ use Rattle.state.specs.declared.Config.{Config}
 use Rattle.state.specs.declared.Sizes.{Sizes}
 use Rattle.state.specs.Still.{config-of}
 use Rattle.state.specs.View.{Room}
-use Rattle.engine.specs.Recording.{Lent}
+use Rattle.records.specs.Recording.{Lent}
 
 -- the header's cells
 pub config-is : (s : List ℕ) (v c l : ℕ) → v ≡ getD s 0 0 → c ≡ getD s 1 0 → l ≡ getD s 2 0

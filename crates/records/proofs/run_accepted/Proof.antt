@@ -1,8 +1,8 @@
 use native.Mathlib.Omega.{arith}
-use Rattle.engine.specs.Accepting.{sizes, lits, need-is, need-fits, vars-are, vars-fit, lent, part-length, part-filled}
+use Rattle.records.specs.Accepting.{sizes, lits, need-is, need-fits, vars-are, vars-fit, lent, part-length, part-filled}
 use borrow.Author.Needs.{needs}
-use Rattle.engine.proofs.run_accepted.Statement.{statement}
-use Rattle.engine.proofs.run_accepted.Tie as tie
+use Rattle.records.proofs.run_accepted.Statement.{statement}
+use Rattle.records.proofs.run_accepted.Tie as tie
 
 config-requires : tie.Need-config-requires
 config-requires c κs = c .before .before .before .before .pre .header-fits .cells

@@ -3,8 +3,8 @@ use mathlib.Core.Path.{ap, _∙_}
 use lib.ListN.{replicate}
 use Rattle.model.specs.State.{f64-zero}
 use borrow.Author.Needs.{needs}
-use Rattle.engine.proofs.run_in.Statement.{statement}
-use Rattle.engine.proofs.run_in.Tie as tie
+use Rattle.records.proofs.run_in.Statement.{statement}
+use Rattle.records.proofs.run_in.Tie as tie
 
 records-requires : tie.Need-records-requires
 records-requires c κs = search needs

@@ -1,8 +1,8 @@
 use borrow.Author.Needs.{needs}
 use Rattle.search.specs.Held.{solver-at}
-use Rattle.engine.specs.Recording.{stepped-solve, stepped-clause}
-use Rattle.engine.proofs.record.Statement.{statement}
-use Rattle.engine.proofs.record.Tie as tie
+use Rattle.records.specs.Recording.{stepped-solve, stepped-clause}
+use Rattle.records.proofs.record.Statement.{statement}
+use Rattle.records.proofs.record.Tie as tie
 
 solve-requires : tie.Need-solve-requires
 solve-requires c κs =

@@ -1,7 +1,7 @@
 use borrow.Author.Needs.{needs}
-use Rattle.engine.specs.Accepting.{config-is}
-use Rattle.engine.proofs.config.Statement.{statement}
-use Rattle.engine.proofs.config.Tie as tie
+use Rattle.records.specs.Accepting.{config-is}
+use Rattle.records.proofs.config.Statement.{statement}
+use Rattle.records.proofs.config.Tie as tie
 
 shared-slice-read-wide : tie.Need-shared-slice-read-wide
 shared-slice-read-wide c = search needs

@@ -1,9 +1,11 @@
 use Prim.Native.Nat.{_<_}
 use mathlib.Core.Path.{_≡_}
+use mathlib.Core.Bool.{true}
 use native.Mathlib.Omega.{arith}
 use borrow.Author.Tests.{eq-eqb, ne-eqb, lt-ltb, le-ltb}
 use denote.Ref.{now}
-use lib.ListN.{length}
+use lib.ListN.{length, getD}
+use lib.Ieee.{nan, lt}
 use Rattle.activity.specs.Pick.{below, below-some, better}
 use borrow.Author.Needs.{needs}
 use Rattle.activity.proofs.better.Statement.{statement}
@@ -38,7 +40,8 @@ shared-slice-read-if3-2 c = search needs
 returns-3 : tie.Need-returns-3
 returns-3 c =
     let a = c .before .before .before .before .before .before .args in
-    rw (eq-eqb _ _ (c .before .before .before .before .if1 .left), lt-ltb _ _ (c .before .before .before .if2 .left), c .if3 .taken, better, below)
+    let more : lt (getD (now (a .act)) (a .best) nan) (getD (now (a .act)) (a .i) nan) ≡ true = c .if3 .taken in
+    rw (eq-eqb _ _ (c .before .before .before .before .if1 .left), lt-ltb _ _ (c .before .before .before .if2 .left), more, better, below)
     (below-some (length (now (a .values))) (a .i) (omega arith))
 
 returns-4 : tie.Need-returns-4

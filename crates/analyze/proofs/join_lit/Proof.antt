@@ -1,5 +1,8 @@
+use Prim.Native.Nat.{ℕ}
 use native.Mathlib.Omega.{arith}
-use mathlib.Core.Path.{sym, _∙_}
+use mathlib.Core.Path.{_≡_, sym, _∙_, subst}
+use Rattle.model.specs.Activity.{var-bump-activity}
+use Rattle.activity.specs.Activities.{activity}
 use borrow.Author.Needs.{needs}
 use Rattle.analyze.specs.Joining.{lit-var, count-fits, counts, note-fits, notes}
 use Rattle.analyze.proofs.join_lit.Statement.{statement}
@@ -51,7 +54,7 @@ returns c =
     let p = c .before .before .before .before .before .before .before .before .before .before .before .before .before .before .before .before .before .before .pre in
     counts (a .d) (a .h) (a .work .now) (a .act .now) (a .r) (a .q .0) (p .0) (p .1 .0) (p .1 .1)
     (rw (← c .before .before .before .before .before .before .before .before .before .before .before .before .before .before .before .var .ensures) (sym (c .before .before .before .before .before .before .before .before .before .before .before .before .level .ensures) ∙ c .before .if1 .taken ∙ c .before .before .before .before .before .before .before .before .before .before .decision-level .ensures)) _ _ _
-    (rw (c .before .before .before .before .before .before .before .before .before .before .before .before .before .before .before .var .ensures) at (c .before .before .before .before .before .before .before .before .set-mark .ensures)) (rw (c .before .before .before .before .before .before .before .before .before .before .before .before .before .before .wide .ensures, c .before .before .before .before .before .before .before .before .before .before .before .before .before .before .before .var .ensures) at (c .before .before .before .before .bump .ensures))
+    (rw (c .before .before .before .before .before .before .before .before .before .before .before .before .before .before .before .var .ensures) at (c .before .before .before .before .before .before .before .before .set-mark .ensures)) (subst (λ (v : ℕ). activity (c .before .before .before .before .bump .last .0) (c .before .before .before .before .bump .result) ≡ var-bump-activity (activity (a .act .now) (a .r .inc)) v) (c .before .before .before .before .before .before .before .before .before .before .before .before .before .before .wide .ensures ∙ c .before .before .before .before .before .before .before .before .before .before .before .before .before .before .before .var .ensures) (c .before .before .before .before .bump .ensures))
 
 set-buffer-requires : tie.Need-set-buffer-requires
 set-buffer-requires c κs =
@@ -76,7 +79,7 @@ returns-2 c =
     let a = c .before .before .before .before .before .before .before .before .before .before .before .before .before .before .before .before .before .before .before .before .before .args in
     let p = c .before .before .before .before .before .before .before .before .before .before .before .before .before .before .before .before .before .before .before .before .before .pre in
     notes (a .d) (a .h) (a .work .now) (a .act .now) (a .r) (a .q .0) (p .0) (p .1 .0) (p .1 .1) (λ e. c .before .before .before .before .if1 .left (c .before .before .before .before .before .before .before .before .before .before .before .before .before .before .before .level .ensures ∙ rw (c .before .before .before .before .before .before .before .before .before .before .before .before .before .before .before .before .before .before .var .ensures) e ∙ sym (c .before .before .before .before .before .before .before .before .before .before .before .before .before .decision-level .ensures))) _ _ _ _
-    (rw (c .before .before .before .before .before .before .before .before .before .before .before .before .before .before .before .before .before .before .var .ensures) at (c .before .before .before .before .before .before .before .before .before .before .before .set-mark .ensures)) (rw (c .before .before .before .before .before .before .before .before .before .before .before .before .before .before .before .before .before .wide .ensures, c .before .before .before .before .before .before .before .before .before .before .before .before .before .before .before .before .before .before .var .ensures) at (c .before .before .before .before .before .before .before .bump .ensures)) (c .before .before .set-buffer .ensures)
+    (rw (c .before .before .before .before .before .before .before .before .before .before .before .before .before .before .before .before .before .before .var .ensures) at (c .before .before .before .before .before .before .before .before .before .before .before .set-mark .ensures)) (subst (λ (v : ℕ). activity (c .before .before .before .before .before .before .before .bump .last .0) (c .before .before .before .before .before .before .before .bump .result) ≡ var-bump-activity (activity (a .act .now) (a .r .inc)) v) (c .before .before .before .before .before .before .before .before .before .before .before .before .before .before .before .before .before .wide .ensures ∙ c .before .before .before .before .before .before .before .before .before .before .before .before .before .before .before .before .before .before .var .ensures) (c .before .before .before .before .before .before .before .bump .ensures)) (c .before .before .set-buffer .ensures)
 
 pub join-lit-spec : {M : Type 1} → statement M
 join-lit-spec =

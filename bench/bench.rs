@@ -1,19 +1,21 @@
 //! Measures the engine (the static library) and the patched Rust on the same scripts, in one run.
 //!
-//!   bench table REPEATS              all tables, as docs/PERFORMANCE.md has them
+//!   bench table REPEATS FOLDER       all tables, as docs/PERFORMANCE.md has them, and its plots into FOLDER
 //!   bench once SIDE SCRIPT           one run on one side (engine, rust or heap), for callgrind
 //!   bench time SCRIPT REPEATS        seconds of both sides
 //!   bench cost SCRIPT                conflicts, decisions and propagations, patched and with the Rust's heap
 //!   bench dimacs SCRIPT              the formula as DIMACS, where the script is one formula and one solve
 //!
-//! C and L are what the run stores. The slices are allocated and written before the clock starts; what the
-//! engine fills at the start and clears at the end is in its time, and what the Rust allocates is in its own.
+//! C and L are what the run stores, but for the scripts of `sizes`. The slices are allocated and written before the
+//! clock starts; what the engine fills at the start and clears at the end is in its time, and what the Rust allocates
+//! is in its own.
 //! The engine runs the same search as the patched Rust, so conflicts and propagations are those of both; that
 //! the out cells are the same is tested in each run. Times are seconds on a processor, the best of REPEATS.
 
 #[path = "../bindings/rust/engine.rs"]
 #[allow(dead_code)]
 mod binding;
+mod plot;
 #[path = "../tools/shapes.rs"]
 #[allow(dead_code)]
 mod shapes;
@@ -50,12 +52,14 @@ struct Named {
     family: &'static str,
     name: String,
     script: Script,
+    /// C and L, where they are not what the run stores.
+    room: Option<(u32, u32)>,
 }
 
 fn one(family: &'static str, name: String, f: Formula, budget: u32) -> Named {
     let mut records: Vec<Record> = f.clauses.into_iter().map(Record::Clause).collect();
     records.push(Record::Solve(vec![], budget));
-    Named { family, name, script: Script { vars: f.vars, mode: 2, phase: 2, unit: 100, records } }
+    Named { family, name, script: Script { vars: f.vars, mode: 2, phase: 2, unit: 100, records }, room: None }
 }
 
 /// Solves under assumptions, a clause between them.
@@ -69,7 +73,7 @@ fn incremental(seed: u64, vars: u32, solves: u32) -> Named {
         records.push(Record::Clause(k_sat(&mut rng, vars, 3, 1.0 / vars as f64).clauses.remove(0)));
     }
     let script = Script { vars, mode: 2, phase: 2, unit: 100, records };
-    Named { family: "assumptions", name: format!("assumed-{}-{}", vars, seed), script }
+    Named { family: "assumptions", name: format!("assumed-{}-{}", vars, seed), script, room: None }
 }
 
 fn sat(vars: u32, seed: u64) -> Named {
@@ -119,6 +123,24 @@ fn timed() -> Vec<Named> {
     ]
 }
 
+/// The sizes of `loadsat`, and the largest that a script may ask for: there the engine fills and clears all of work.
+fn sizes() -> Vec<Named> {
+    let sat = |name: &str, vars: u32, seed: u64, budget: u32, room: (u32, u32)| {
+        let f = k_sat(&mut Rng(seed), vars, 3, 4.26);
+        Named { room: Some(room), ..one("sizes", name.to_string(), f, budget) }
+    };
+    let loadsat = (512, 4096);
+    let whole = (65535, 1048576);
+    vec![
+        sat("loadsat-50", 50, 1, BUDGET, loadsat),
+        sat("loadsat-100", 100, 1, BUDGET, loadsat),
+        Named { room: Some(loadsat), ..one("sizes", "loadsat-queens-6".to_string(), queens(6), BUDGET) },
+        sat("whole-100", 100, 1, BUDGET, whole),
+        sat("whole-4096", 4096, 7, 1000, whole),
+        sat("whole-4096-long", 4096, 7, 8000, whole),
+    ]
+}
+
 /// Small enough for callgrind.
 fn counted() -> Vec<Named> {
     vec![sat(150, 1), holes(6), charges(18, 1), colours(250, 1), board(20), incremental(3, 100, 30)]
@@ -133,14 +155,14 @@ fn growing() -> Vec<Named> {
 }
 
 fn find(name: &str) -> Named {
-    let all = timed().into_iter().chain(counted()).chain(growing());
+    let all = timed().into_iter().chain(sizes()).chain(counted()).chain(growing());
     all.into_iter().find(|n| n.name == name).expect("a script's name")
 }
 
-/// The formula, where the script is one formula and one solve without assumptions.
+/// The formula, where the script is one formula and one solve without assumptions that may take as long as it needs.
 fn dimacs(script: &Script) -> Option<String> {
     let (last, rest) = script.records.split_last()?;
-    if !matches!(last, Record::Solve(lits, _) if lits.is_empty()) {
+    if !matches!(last, Record::Solve(lits, BUDGET) if lits.is_empty()) {
         return None;
     }
     let mut text = format!("p cnf {} {}\n", script.vars, rest.len());
@@ -163,16 +185,19 @@ struct Lent {
     out: Vec<u32>,
 }
 
-/// C and L are what the run stores.
-fn lent(script: &Script) -> Lent {
+/// The slices, with room for what the run stores.
+fn lent(n: &Named) -> Lent {
+    let script = &n.script;
     let mut stored = (0, 0);
-    oracle::run_with(&script.cells(0, 0), |a| stored = (a.clauses, a.literals));
-    assert!(stored.0 <= 65535 && stored.1 <= 1048576, "{} clauses, {} literals", stored.0, stored.1);
+    oracle::run_with(&script.cells(0, 0), |a| stored = (a.clauses as u32, a.literals as u32));
+    let room = n.room.unwrap_or(stored);
+    assert!(stored.0 <= room.0 && stored.1 <= room.1, "{} clauses, {} literals", stored.0, stored.1);
+    assert!(room.0 <= 65535 && room.1 <= 1048576, "{} clauses, {} literals", room.0, room.1);
     let vars = script.vars as usize;
     let solves = script.records.iter().filter(|r| matches!(r, Record::Solve(..))).count();
     Lent {
-        script: script.cells(stored.0 as u32, stored.1 as u32),
-        work: vec![1; 32 * vars + 8 * stored.0 as usize + stored.1 as usize + 64],
+        script: script.cells(room.0, room.1),
+        work: vec![1; 32 * vars + 8 * room.0 as usize + room.1 as usize + 64],
         activities: vec![1.0; vars],
         out: vec![1; script.records.len() - solves + solves * (vars + 4)],
     }
@@ -197,8 +222,8 @@ fn heap_run(cells: &[u32]) -> (Vec<u32>, oracle_heap::Cost) {
     oracle_heap::run(cells)
 }
 
-fn once(side: &str, script: &Script) {
-    let mut l = lent(script);
+fn once(side: &str, n: &Named) {
+    let mut l = lent(n);
     match side {
         "engine" => assert!(!engine(&mut l).is_empty()),
         "rust" => assert!(!rust_run(&l.script).0.is_empty()),
@@ -208,8 +233,8 @@ fn once(side: &str, script: &Script) {
 }
 
 /// The best time of each side, and the Rust's cost.
-fn times(script: &Script, repeats: u32) -> (f64, f64, oracle::Cost) {
-    let mut l = lent(script);
+fn times(n: &Named, repeats: u32) -> (f64, f64, oracle::Cost) {
+    let mut l = lent(n);
     let mut best = (f64::MAX, f64::MAX);
     let mut cost = oracle::Cost::default();
     for _ in 0..repeats {
@@ -271,33 +296,33 @@ fn mean(ratios: &[(&str, f64)]) -> f64 {
     (families.iter().map(|f| of(f)).sum::<f64>() / families.len() as f64).exp()
 }
 
-fn timed_table(repeats: u32) {
+/// The time of another solver on the script's formula, and its conflicts, where it is installed.
+fn beside(n: &Named, program: &str, words: &[&str], repeats: u32) -> String {
+    let Some(text) = dimacs(&n.script) else { return "-".to_string() };
+    let file = std::env::temp_dir().join(format!("bench-{}.cnf", std::process::id()));
+    let file = file.to_str().expect("a path");
+    std::fs::write(file, text).expect("a file to write");
+    let cell = other(program, words, file, repeats).map_or("-".to_string(), |(s, c)| format!("{:.3} ({})", s, c));
+    let _ = std::fs::remove_file(file);
+    cell
+}
+
+/// Times of both sides, and of other solvers; gives engine/Rust by family and script.
+fn timed_table(scripts: Vec<Named>, repeats: u32) -> Vec<(&'static str, String, f64)> {
     println!("| family | script | V | conflicts | propagations | engine s | Rust s | engine/Rust | minisat s (conflicts) | cadical s (conflicts) |");
     println!("|---|---|---|---|---|---|---|---|---|---|");
     let mut ratios = vec![];
-    for n in timed() {
-        let (ours, theirs, cost) = times(&n.script, repeats);
-        ratios.push((n.family, ours / theirs));
-        let file = std::env::temp_dir().join(format!("bench-{}.cnf", std::process::id()));
-        let file = file.to_str().expect("a path");
-        let mut others = vec![];
-        for (program, words) in [("minisat", vec![]), ("cadical", vec!["-n"])] {
-            let cell = match dimacs(&n.script) {
-                None => None,
-                Some(text) => {
-                    std::fs::write(file, text).expect("a file to write");
-                    other(program, &words, file, repeats)
-                }
-            };
-            others.push(cell.map_or("-".to_string(), |(s, c)| format!("{:.3} ({})", s, c)));
-        }
-        let _ = std::fs::remove_file(file);
+    for n in scripts {
+        let (ours, theirs, cost) = times(&n, repeats);
+        let (minisat, cadical) = (beside(&n, "minisat", &[], repeats), beside(&n, "cadical", &["-n"], repeats));
         println!(
             "| {} | {} | {} | {} | {} | {:.4} | {:.4} | {:.2} | {} | {} |",
-            n.family, n.name, n.script.vars, cost.conflicts, cost.propagations, ours, theirs, ours / theirs, others[0], others[1]
+            n.family, n.name, n.script.vars, cost.conflicts, cost.propagations, ours, theirs, ours / theirs, minisat, cadical
         );
+        ratios.push((n.family, n.name, ours / theirs));
     }
-    println!("\nGeometric mean over the families of engine/Rust: {:.3}\n", mean(&ratios));
+    println!();
+    ratios
 }
 
 fn counted_table() {
@@ -320,45 +345,66 @@ fn counted_table() {
     println!("\nGeometric mean over the families of engine/Rust: {:.3}\n", mean(&ratios));
 }
 
-fn growing_table(repeats: u32) {
-    println!("| V | conflicts | decisions | propagations | engine: instructions for a propagation, a decision, a conflict | Rust: the same | with its heap: the same | engine ms | Rust ms |");
+/// What a propagation and a conflict cost as V grows; gives V and the nanoseconds for a propagation of both sides.
+fn growing_table(repeats: u32) -> Vec<(u32, f64, f64)> {
+    println!("| V | conflicts | decisions | propagations | ns for a propagation: engine, Rust | µs for a conflict: engine, Rust | instructions for a propagation, a decision, a conflict: engine | Rust | Rust with its heap |");
     println!("|---|---|---|---|---|---|---|---|---|");
+    let mut rows = vec![];
     for n in growing() {
-        let (ours, theirs, cost) = times(&n.script, repeats);
+        let (ours, theirs, cost) = times(&n, repeats);
         let heap = heap_run(&n.script.cells(0, 0)).1;
         let counts = |side: &str, c: u64, d: u64, p: u64| match instructions(side, &n.name) {
             None => "-".to_string(),
             Some(i) => format!("{}, {}, {}", i / p, i / d, i / c),
         };
+        let each = |s: f64, of: u64| s / of as f64;
         println!(
-            "| {} | {} | {} | {} | {} | {} | {} | {:.2} | {:.2} |",
+            "| {} | {} | {} | {} | {:.0}, {:.0} | {:.1}, {:.1} | {} | {} | {} |",
             n.script.vars,
             cost.conflicts,
             cost.decisions,
             cost.propagations,
+            each(ours * 1e9, cost.propagations),
+            each(theirs * 1e9, cost.propagations),
+            each(ours * 1e6, cost.conflicts),
+            each(theirs * 1e6, cost.conflicts),
             counts("engine", cost.conflicts, cost.decisions, cost.propagations),
             counts("rust", cost.conflicts, cost.decisions, cost.propagations),
             counts("heap", heap.conflicts, heap.decisions, heap.propagations),
-            ours * 1e3,
-            theirs * 1e3
         );
+        rows.push((n.script.vars, each(ours * 1e9, cost.propagations), each(theirs * 1e9, cost.propagations)));
     }
     println!();
+    rows
+}
+
+fn tables(repeats: u32, folder: &str) {
+    println!("### Time\n");
+    let ratios = timed_table(timed(), repeats);
+    let by_family: Vec<(&str, f64)> = ratios.iter().map(|r| (r.0, r.2)).collect();
+    println!("Geometric mean over the families of engine/Rust: {:.3}\n", mean(&by_family));
+    println!("![engine/Rust by script](ratios.svg)\n");
+    println!("### Sizes\n");
+    println!("C and L of `loadsat` (512 and 4,096), and the largest (65,535 and 1,048,576).\n");
+    timed_table(sizes(), repeats);
+    println!("### Instructions\n");
+    counted_table();
+    println!("### As V grows\n");
+    let growth = growing_table(repeats);
+    println!("![nanoseconds for a propagation by V](growth.svg)");
+    let bars: Vec<(String, f64)> = ratios.into_iter().map(|r| (r.1, r.2)).collect();
+    std::fs::write(format!("{}/ratios.svg", folder), plot::ratios(&bars)).expect("a file to write");
+    std::fs::write(format!("{}/growth.svg", folder), plot::growth(&growth)).expect("a file to write");
 }
 
 fn main() {
     let args: Vec<String> = std::env::args().skip(1).collect();
     let words: Vec<&str> = args.iter().map(|a| a.as_str()).collect();
     match words[..] {
-        ["table", repeats] => {
-            let repeats = repeats.parse().expect("a number");
-            timed_table(repeats);
-            counted_table();
-            growing_table(repeats);
-        }
-        ["once", side, name] => once(side, &find(name).script),
+        ["table", repeats, folder] => tables(repeats.parse().expect("a number"), folder),
+        ["once", side, name] => once(side, &find(name)),
         ["time", name, repeats] => {
-            let (ours, theirs, _) = times(&find(name).script, repeats.parse().expect("a number"));
+            let (ours, theirs, _) = times(&find(name), repeats.parse().expect("a number"));
             println!("{} engine={:.6} rust={:.6} ratio={:.3}", name, ours, theirs, ours / theirs);
         }
         ["cost", name] => {

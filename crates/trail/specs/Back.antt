@@ -86,6 +86,8 @@ with-limits a x =
     record {
       vars = record { values = a .vars .values; levels = a .vars .levels; reasons = a .vars .reasons; trail = a .vars .trail; limits = x };
       phases = a .phases;
+      trail-cells = a .trail-cells;
+      limit-cells = a .limit-cells;
     }
 
 -- all that stands above the level went, and the limits are cut

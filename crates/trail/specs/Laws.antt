@@ -105,7 +105,7 @@ module _ (d : TrailSize) (h : TrailHead) (w : List ℕ) (r : Rep d h w) (p from 
       (record { fits = simp length-set (r .room .fits); vars = r .room .vars }) (record { assigned = omega arith; levels = r .counts .levels })
       (e4 ∙ ap (λ qs. put qs 4 t p) (e3 ∙ ap (λ qs. put qs 2 v from) (e2 ∙ ap (λ qs. put qs 1 v (h .levels)) e1)))
       (values-set (getD ps 0 []) v (sign p) (omega arith) (r .values))
-      (rw (add-one, take-suc-set (getD ps 4 []) t p fits, limits-length d h w r))
+      (rw (add-one, take-suc-set (getD ps 4 []) t p fits, trail-length d h w r, limits-length d h w r))
 
 -- a level is opened
 module _ (d : TrailSize) (h : TrailHead) (w : List ℕ) (r : Rep d h w) (room : h .levels < 3 * d .vars) where
@@ -119,7 +119,7 @@ module _ (d : TrailSize) (h : TrailHead) (w : List ℕ) (r : Rep d h w) (room : 
       held d (record { assigned = h .assigned; levels = k + 1 }) (set w (5 * d .vars + k) (h .assigned)) (put ps 5 k (h .assigned))
       (record { fits = simp length-set (r .room .fits); vars = r .room .vars }) (record { assigned = r .counts .assigned; levels = omega arith })
       e (r .values)
-      (rw (add-one, take-suc-set (getD ps 5 []) k (h .assigned) fits, trail-length d h w r))
+      (rw (add-one, take-suc-set (getD ps 5 []) k (h .assigned) fits, trail-length d h w r, limits-length d h w r))
 
 -- what the new heads count
 module _ {d : TrailSize} {h r : TrailHead} {w w′ : List ℕ} (k : Rep d h w) where

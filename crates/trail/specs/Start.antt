@@ -10,7 +10,7 @@ use Rattle.region.specs.Split.{split, put}
 use Rattle.region.specs.Laws.{set-in, split-length}
 use Rattle.model.specs.Lit.{l-undef, no-reason}
 use Rattle.model.specs.State.{initial-state}
-use Rattle.trail.specs.View.{Room, Values, shape, Holds, Counted, cleared, filled, initial-assignment}
+use Rattle.trail.specs.View.{Assignment, Room, Values, shape, view, Holds, Counted, cleared, filled, initial-assignment}
 use Rattle.trail.specs.Laws.{held, holds-assigned, holds-levels}
 use Rattle.trail.specs.declared.TrailSize.{TrailSize}
 use Rattle.trail.specs.declared.TrailHead.{TrailHead}
@@ -57,14 +57,14 @@ unset-values n v = go (decLt v n)
 
 -- the block when all variables are as at the start
 pub start-holds : (d : TrailSize) (w₀ w : List ℕ) → Room d (length w₀) → length w ≡ length w₀ → split (shape d) w ≡ filled (d .vars) (split (shape d) w₀)
-    → Holds d (record { assigned = 0; levels = 0 }) w (initial-assignment (d .vars))
-unfolding initial-state
+    → Holds d (record { assigned = 0; levels = 0 }) w (initial-assignment (d .vars) (view d (record { assigned = 0; levels = 0 }) w₀))
+unfolding view initial-state
 start-holds d w₀ w r l e =
     let f = filled-region d w₀ r in
     held d (record { assigned = 0; levels = 0 }) w (filled (d .vars) (split (shape d) w₀)) (rw l r) (record { assigned = omega arith; levels = omega arith }) e
     (rw (f 0 l-undef (omega arith) refl) (unset-values (d .vars)))
     (rw (f 0 l-undef (omega arith) refl, f 1 0 (omega arith) refl, f 2 no-reason (omega arith) refl, f 3 1 (omega arith) refl))
 
-pub after-fill : {d : TrailSize} {r : TrailHead} {w : List ℕ} (n : ℕ) → Holds d r w (initial-assignment n) → Counted r 0 0
+pub after-fill : {d : TrailSize} {r : TrailHead} {w : List ℕ} (n : ℕ) (a : Assignment) → Holds d r w (initial-assignment n a) → Counted r 0 0
 unfolding initial-state
-after-fill n x = record { assigned = holds-assigned x; levels = holds-levels x }
+after-fill n a x = record { assigned = holds-assigned x; levels = holds-levels x }

@@ -12,23 +12,44 @@ use Rattle.model.specs.Trail.{unchecked-enqueue, new-decision-level, vars-until
 use Rattle.trail.specs.declared.TrailSize.{TrailSize}
 use Rattle.trail.specs.declared.TrailHead.{TrailHead}
 
+-- the cells of the trail and of the limits are all there, those past the ends too
 pub record Assignment : Type 0 where
   pub vars : VarState
   pub phases : List ℕ
+  pub trail-cells : List ℕ
+  pub limit-cells : List ℕ
 
--- n variables, none assigned
-abbrev pub initial-assignment : ℕ → Assignment
-initial-assignment n = record { vars = initial-state n .vars; phases = initial-state n .phases }
+-- n variables, none assigned; the cells of the trail and of the limits are as in a
+abbrev pub initial-assignment : ℕ → Assignment → Assignment
+initial-assignment n a = record { vars = initial-state n .vars; phases = initial-state n .phases; trail-cells = a .trail-cells; limit-cells = a .limit-cells }
 
 abbrev pub enqueued : Assignment → ℕ → ℕ → Assignment
-enqueued a p from = record { vars = unchecked-enqueue (a .vars) p from; phases = a .phases }
+enqueued a p from =
+    record {
+      vars = unchecked-enqueue (a .vars) p from;
+      phases = a .phases;
+      trail-cells = set (a .trail-cells) (length (a .vars .trail)) p;
+      limit-cells = a .limit-cells;
+    }
 
 abbrev pub next-level : Assignment → Assignment
-next-level a = record { vars = new-decision-level (a .vars); phases = a .phases }
+next-level a =
+    record {
+      vars = new-decision-level (a .vars);
+      phases = a .phases;
+      trail-cells = a .trail-cells;
+      limit-cells = set (a .limit-cells) (length (a .vars .limits)) (length (a .vars .trail));
+    }
 
 -- back to a level, with the phases saved
 abbrev pub until : ℕ → Assignment → ℕ → Assignment
-until phase a level = record { vars = vars-until (a .vars) level; phases = save (a .phases) (saved-part phase (a .vars) level) }
+until phase a level =
+    record {
+      vars = vars-until (a .vars) level;
+      phases = save (a .phases) (saved-part phase (a .vars) level);
+      trail-cells = a .trail-cells;
+      limit-cells = a .limit-cells;
+    }
 
 -- ---- the cells
 
@@ -48,6 +69,8 @@ pack h ps =
             limits = take (h .levels) (getD ps 5 []);
           };
       phases = getD ps 3 [];
+      trail-cells = getD ps 4 [];
+      limit-cells = getD ps 5 [];
     }
 
 unfoldable pub view : TrailSize → TrailHead → List ℕ → Assignment
@@ -117,6 +140,8 @@ undone phase last a =
             limits = a .vars .limits;
           };
       phases = save-if (saves phase last c) (a .phases) p;
+      trail-cells = a .trail-cells;
+      limit-cells = a .limit-cells;
     }
 
 -- of the literals from place k on, those whose signs are saved
@@ -138,6 +163,8 @@ undone-to phase last k a =
             limits = a .vars .limits;
           };
       phases = save (a .phases) (saved-from phase last k (a .vars .trail));
+      trail-cells = a .trail-cells;
+      limit-cells = a .limit-cells;
     }
 
 -- ---- the start

@@ -212,7 +212,7 @@ fn clear_var(d: TrailSize, s: &mut [u32], v: usize)
 // The start: nothing is assigned, whatever stood in the slice.
 pub fn fill(d: TrailSize, s: &mut [u32]) -> TrailHead
     requires { ⌜ Room d (length (now s)) ⌝ }
-    ensures { λ r. ⌜ Holds d r (now (s .exit)) (initial-assignment (d .vars)) ⌝ }
+    ensures { λ r. ⌜ Holds d r (now (s .exit)) (initial-assignment (d .vars) (view d r (now (s .entry)))) ⌝ }
 {
     let n = d.vars;
     for v in 0..n {

@@ -27,6 +27,7 @@ use Rattle.state.specs.declared.Header.{Header}
 use Rattle.state.specs.View.{Whole, shape, used, trail-size, scratch-size, lists-size, store-size, final-size, pack, whole, state-of, Room, Blocks, Rep}
 use Rattle.state.specs.Laws.{lent, back}
 use Rattle.state.specs.Lending.{Outside, came-back}
+use Rattle.state.specs.AssignmentLaws.{trail-part, trail-lent}
 use Rattle.state.specs.Fresh.{Fresh}
 
 -- block k was filled, and is as P says
@@ -35,6 +36,10 @@ pub record Filled (d : Sizes) (w w′ : List ℕ) (k : ℕ) (P : List ℕ → Ty
   pub block : List ℕ
   pub parts : split (shape d) w′ ≡ set (split (shape d) w) k block
   pub holds : P block
+
+-- nothing is assigned in b, and the trail's cells and the limits' are those of w
+abbrev pub Unassigned : Sizes → List ℕ → TrailHead → List ℕ → Type 0
+Unassigned d w t b = tv.Holds (trail-size d) t b (initial-assignment (d .vars) (tv.view (trail-size d) t (getD (split (shape d) w) 0 [])))
 
 pub record Unmarked (d : Sizes) (b : List ℕ) : Type 0 where
   pub room : xv.Room (scratch-size d) (length b)
@@ -46,10 +51,11 @@ pub record Unlisted (d : Sizes) (b : List ℕ) : Type 0 where
   pub watches : as-watches (wv.view (lists-size d) b) ≡ replicate (2 * d .vars) []
   pub under : Under 0 (wv.view (lists-size d) b .lists)
 
--- what `start` leaves
-pub record Started (d : Sizes) (r : Header) (w : List ℕ) : Type 0 where
+-- what `start` leaves of w₀
+pub record Started (d : Sizes) (r : Header) (w₀ w : List ℕ) : Type 0 where
   pub rep : Rep d r w
   pub state : state-of r (whole d r w) ≡ initial-state (d .vars)
+  pub assignment : whole d r w .assignment ≡ initial-assignment (d .vars) (whole d r w₀ .assignment)
   pub marks : whole d r w .scratch .marks ≡ replicate (d .vars) 0
   pub lists : whole d r w .watches .lists ≡ replicate (2 * d .vars) []
   pub pushed : whole d r w .clauses .pushed ≡ []
@@ -64,6 +70,9 @@ module _ (d : Sizes) (w : List ℕ) (r : Room d (length w)) (k a e : ℕ) (g : k
 
   pub filled : (P : List ℕ → Type 0) (ys : List ℕ) → length ys ≡ length (take (e - a) (drop a w)) → P ys → Filled d w (take a w ++ (ys ++ drop (e - a) (drop a w))) k P
   filled P ys n p = record { outside = came-back (used d) w ys a e (omega arith) (omega arith) (r .fits) n; block = ys; parts = back d w k a e g ha he ys (omega (arith, r .fits)) r n; holds = p }
+
+pub unassigned-is : (d : Sizes) (w : List ℕ) (t : TrailHead) (ys : List ℕ) → tv.Holds (trail-size d) t ys (initial-assignment (d .vars) (tv.view (trail-size d) t (trail-part d w))) → Unassigned d w t ys
+unassigned-is d w t ys k = rw (trail-lent d w) at k
 
 pub unmarked-is : (d : Sizes) (b ys : List ℕ) → xv.Holds (scratch-size d) ys (xv.unmarked (d .vars) (xv.view (scratch-size d) b)) → Unmarked d ys
 unmarked-is d b ys k = record { room = k .room; marks = ap (λ (s : xv.Scratch). s .marks) (k .view) }
@@ -83,7 +92,7 @@ module _ (d : Sizes) (t : TrailHead) (s : StoreHead) (f : Head) (ps : List (List
   abbrev pub first-head : Header
   first-head = record { trail = t; store = s; finals = f; qhead = 0; ok = true }
 
-  module _ (trail : tv.Holds (trail-size d) t (getD ps 0 []) (initial-assignment (d .vars))) (scratch : Unmarked d (getD ps 1 [])) (watches : Unlisted d (getD ps 2 []))
+  module _ (w₀ : List ℕ) (trail : Unassigned d w₀ t (getD ps 0 [])) (scratch : Unmarked d (getD ps 1 [])) (watches : Unlisted d (getD ps 2 []))
       (store : sv.Holds (store-size d) s (getD ps 3 []) no-clauses) (final : lv.Holds (final-size d) f (getD ps 4 []) []) where
     all-blocks : Blocks d first-head ps
     all-blocks = record { trail = trail .rep; scratch = scratch .room; watch = watches .rep; store = store .rep; final = final .rep }
@@ -92,7 +101,7 @@ module _ (d : Sizes) (t : TrailHead) (s : StoreHead) (f : Head) (ps : List (List
     unfolding initial-state
     first-state rest = rw (trail .view, store .view, watches .watches)
 
-    pub all-filled : (w : List ℕ) → Room d (length w) → split (shape d) w ≡ ps → Started d first-head w
+    pub all-filled : (w : List ℕ) → Room d (length w) → split (shape d) w ≡ ps → Started d first-head w₀ w
     unfolding whole
     all-filled w room e =
         let same : whole d first-head w ≡ pack d first-head ps (drop (used d) w) = ap (λ (qs : List (List ℕ)). pack d first-head qs (drop (used d) w)) e in
@@ -100,6 +109,7 @@ module _ (d : Sizes) (t : TrailHead) (s : StoreHead) (f : Head) (ps : List (List
         record {
           rep = record { room = room; blocks = subst (Blocks d first-head) (sym e) all-blocks };
           state = ap (state-of first-head) same ∙ first-state (drop (used d) w);
+          assignment = ap (λ (x : Whole). x .assignment) same ∙ trail .view;
           marks = ap (λ (x : Whole). x .scratch .marks) same ∙ scratch .marks;
           lists = ap (λ (x : Whole). x .watches .lists) same ∙ watches .lists;
           pushed = ap (λ (x : Whole). x .clauses .pushed) same ∙ ap (λ (x : Clauses). x .pushed) none;
@@ -108,19 +118,19 @@ module _ (d : Sizes) (t : TrailHead) (s : StoreHead) (f : Head) (ps : List (List
         }
 
 pub started : (d : Sizes) (w w₁ w₂ w₃ w₄ w₅ : List ℕ) (t : TrailHead) (s : StoreHead) (f : Head) → Room d (length w)
-    → Filled d w w₁ 0 (λ b. tv.Holds (trail-size d) t b (initial-assignment (d .vars)))
+    → Filled d w w₁ 0 (Unassigned d w t)
     → Filled d w₁ w₂ 1 (Unmarked d)
     → Filled d w₂ w₃ 2 (Unlisted d)
     → Filled d w₃ w₄ 3 (λ b. sv.Holds (store-size d) s b no-clauses)
     → Filled d w₄ w₅ 4 (λ b. lv.Holds (final-size d) f b [])
-    → Started d (record { trail = t; store = s; finals = f; qhead = 0; ok = true }) w₅
+    → Started d (record { trail = t; store = s; finals = f; qhead = 0; ok = true }) w w₅
 started d w w₁ w₂ w₃ w₄ w₅ t s f room a b c e g =
     let size : length w₅ ≡ length w = g .outside .size ∙ e .outside .size ∙ c .outside .size ∙ b .outside .size ∙ a .outside .size in
     let parts : split (shape d) w₅ ≡ a .block ∷ b .block ∷ c .block ∷ e .block ∷ g .block ∷ [] =
     g .parts
     ∙ ap (λ (ps : List (List ℕ)). set ps 4 (g .block)) (e .parts ∙ ap (λ (ps : List (List ℕ)). set ps 3 (e .block)) (c .parts ∙ ap (λ (ps : List (List ℕ)). set ps 2 (c .block)) (b .parts ∙ ap (λ (ps : List (List ℕ)). set ps 1 (b .block)) (a .parts))))
     in
-    all-filled d t s f (a .block ∷ b .block ∷ c .block ∷ e .block ∷ g .block ∷ []) (a .holds) (b .holds) (c .holds) (e .holds) (g .holds) w₅ (rw size room) parts
+    all-filled d t s f (a .block ∷ b .block ∷ c .block ∷ e .block ∷ g .block ∷ []) w (a .holds) (b .holds) (c .holds) (e .holds) (g .holds) w₅ (rw size room) parts
 
 pub started-behind : {d : Sizes} {w w₁ w₂ w₃ w₄ w₅ : List ℕ} {P Q R S T : List ℕ → Type 0} → Filled d w w₁ 0 P → Filled d w₁ w₂ 1 Q → Filled d w₂ w₃ 2 R → Filled d w₃ w₄ 3 S → Filled d w₄ w₅ 4 T
     → drop (used d) w₅ ≡ drop (used d) w

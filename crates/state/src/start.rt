@@ -3,13 +3,11 @@ ghost use mathlib.Core.Path.{_≡_};
 ghost use mathlib.Core.List.{[]};
 ghost use Prim.Native.Nat.{_*_};
 ghost use lib.ListN.{length, drop, replicate};
-ghost use Rattle.trail.specs.View.{initial-assignment};
-ghost use Rattle.trail.specs.View as tv;
 ghost use Rattle.store.specs.View.{no-clauses};
 ghost use Rattle.store.specs.View as sv;
 ghost use Rattle.litset.specs.View as lv;
-ghost use Rattle.state.specs.View.{Room, used, trail-size, store-size, final-size};
-ghost use Rattle.state.specs.StartLaws.{Filled, Unmarked, Unlisted, Started};
+ghost use Rattle.state.specs.View.{Room, used, store-size, final-size};
+ghost use Rattle.state.specs.StartLaws.{Filled, Unassigned, Unmarked, Unlisted, Started};
 use super::Header;
 use super::Sizes;
 use litset::Head;
@@ -23,7 +21,7 @@ use watch::Lists;
 
 fn fill_trail(d: Sizes, work: &mut [u32]) -> TrailHead
     requires { ⌜ Room d (length (now work)) ⌝ }
-    ensures { λ r. ⌜ Filled d (now (work .entry)) (now (work .exit)) 0 (λ b. tv.Holds (trail-size d) r b (initial-assignment (d .vars))) ⌝ }
+    ensures { λ r. ⌜ Filled d (now (work .entry)) (now (work .exit)) 0 (Unassigned d (now (work .entry)) r) ⌝ }
 {
     let e = 8 * d.vars;
     trail::fill(TrailSize { vars: d.vars }, &mut work[0..e])
@@ -78,7 +76,7 @@ fn fill_final(d: Sizes, work: &mut [u32]) -> Head
 // No clause and nothing assigned, whatever stood in the slice; what stands behind the blocks stays.
 pub fn start(d: Sizes, work: &mut [u32]) -> Header
     requires { ⌜ Room d (length (now work)) ⌝ }
-    ensures { λ r. ⌜ Started d r (now (work .exit)) ⌝ }
+    ensures { λ r. ⌜ Started d r (now (work .entry)) (now (work .exit)) ⌝ }
     ensures { λ _. ⌜ drop (used d) (now (work .exit)) ≡ drop (used d) (now (work .entry)) ⌝ }
 {
     let t = fill_trail(d, work);

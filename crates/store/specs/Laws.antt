@@ -17,9 +17,25 @@ use Rattle.region.specs.Table.{tabulate, getD-tabulate, length-tabulate, tabula
 use Rattle.model.specs.Script.{Config}
 use Rattle.model.specs.State.{Store}
 use Rattle.model.specs.Store.{stored-literals, has-room}
-use Rattle.store.specs.View.{Clauses, clause-of, lit-set, lit-pushed, closed, discarded, no-clauses, shape, clause-in, pack, view, Room, Counts, Starts, Rep, Holds, Counted}
+use Rattle.store.specs.View.{Clauses, clause-of, next-lit, lit-set, lit-pushed, closed, discarded, no-clauses, shape, clause-in, pack, view, Room, Counts, Starts, Rep, Holds, Counted}
 use Rattle.store.specs.declared.StoreSize.{StoreSize}
 use Rattle.store.specs.declared.StoreHead.{StoreHead}
+
+-- ---- how many literals a list of clauses has
+
+stored-more : (xs : List (List ℕ)) (y : List ℕ) → stored-literals (xs ++ (y ∷ [])) ≡ stored-literals xs + length y
+unfolding stored-literals
+stored-more [] y = omega arith
+stored-more (x ∷ xs) y = omega (arith, stored-more xs y)
+
+stored-tabulate : (n : ℕ) (f : ℕ → List ℕ) (at : ℕ → ℕ) → at 0 ≡ 0 → ((c : ℕ) → c < n → at c + length (f c) ≡ at (c + 1)) → stored-literals (tabulate n f) ≡ at n
+unfolding tabulate stored-literals
+stored-tabulate zero f at z s = sym z
+stored-tabulate (suc n) f at z s =
+    stored-more (tabulate n f) (f n)
+    ∙ ap (λ (k : ℕ). k + length (f n)) (stored-tabulate n f at z (λ c g. s c (omega arith)))
+    ∙ s n (omega arith)
+    ∙ ap at (add-one n)
 
 -- ---- over the two lists
 
@@ -141,6 +157,18 @@ module _ (d : StoreSize) (h : StoreHead) (w : List ℕ) (r : Rep d h w) where
       length-take-le (h .pushed) (drop (h .literals) (getD (split (shape d) w) 1 []))
       (rw (length-drop (h .literals) (getD (split (shape d) w) 1 [])) (omega (arith, literals-fit)))
 
+  pub literals-stored : stored-literals (view d h w .clauses) ≡ h .literals
+  unfolding view
+  literals-stored =
+      let S = getD (split (shape d) w) 0 [] in
+      let L = getD (split (shape d) w) 1 [] in
+      stored-tabulate (h .clauses) (clause-in S L) (λ c. getD S c 0) (r .starts .first)
+      (λ c g. omega (arith, clause-length h S L (r .starts) literals-fit c g, r .starts .rising c (c + 1) (omega arith) (omega arith)))
+      ∙ r .starts .last
+
+  pub next-lit-is : next-lit (view d h w) ≡ h .literals + h .pushed
+  next-lit-is = ap₂ _+_ literals-stored pushed-length
+
   -- the starts, as they are read
   start-read : (c : ℕ) → c ≤ h .clauses → getD w c 0 ≡ getD (getD (split (shape d) w) 0 []) c 0
   start-read c g = get-in (shape d) w 0 c 0 c (omega (arith, r .counts .clauses)) (omega arith)
@@ -212,7 +240,8 @@ module _ (d : StoreSize) (h : StoreHead) (w : List ℕ) (r : Rep d h w) where
       (record { clauses = r .counts .clauses; literals = omega arith })
       (set-in (shape d) w 1 j p at (omega arith) (omega arith))
       (record { first = r .starts .first; last = r .starts .last; rising = r .starts .rising })
-      (rw (clauses-set-after h S L (r .starts) literals-fit j p (omega arith), pushed-more h S L (r .starts) literals-fit p b))
+      (rw (clauses-set-after h S L (r .starts) literals-fit j p (omega arith), pushed-more h S L (r .starts) literals-fit p b)
+      (ap (λ (n : ℕ). record { clauses = view d h w .clauses; pushed = view d h w .pushed ++ (p ∷ []); start-cells = S; lit-cells = set L n p }) (sym next-lit-is)))
 
   pub close-holds : h .clauses < d .room
       → Holds d (record { clauses = h .clauses + 1; literals = h .literals + h .pushed; pushed = 0 }) (set w (h .clauses + 1) (h .literals + h .pushed)) (closed (view d h w))
@@ -228,7 +257,8 @@ module _ (d : StoreSize) (h : StoreHead) (w : List ℕ) (r : Rep d h w) where
       (record { clauses = omega arith; literals = omega (arith, r .counts .literals) })
       (set-in (shape d) w 0 c x c (omega arith) (omega arith))
       (ended-starts h S L (r .starts) literals-fit b)
-      (ap (λ (cs : List (List ℕ)). record { clauses = cs; pushed = [] }) (ended-clauses h S L (r .starts) literals-fit b))
+      (ap (λ (cs : List (List ℕ)). record { clauses = cs; pushed = []; start-cells = set S c x; lit-cells = L }) (ended-clauses h S L (r .starts) literals-fit b)
+      ∙ ap₂ (λ (m n : ℕ). record { clauses = closed (view d h w) .clauses; pushed = []; start-cells = set S (m + 1) n; lit-cells = L }) (sym clauses-length) (sym next-lit-is))
 
   pub discard-holds : Holds d (record { clauses = h .clauses; literals = h .literals; pushed = 0 }) w (discarded (view d h w))
   unfolding view
@@ -237,8 +267,8 @@ module _ (d : StoreSize) (h : StoreHead) (w : List ℕ) (r : Rep d h w) where
       (record { clauses = r .counts .clauses; literals = omega (arith, r .counts .literals) })
       refl (record { first = r .starts .first; last = r .starts .last; rising = r .starts .rising }) refl
 
-pub start-holds : (d : StoreSize) (w : List ℕ) → Room d (length w) → Holds d (record { clauses = 0; literals = 0; pushed = 0 }) (set w 0 0) no-clauses
-unfolding tabulate
+pub start-holds : (d : StoreSize) (w : List ℕ) → Room d (length w) → Holds d (record { clauses = 0; literals = 0; pushed = 0 }) (set w 0 0) (no-clauses (view d (record { clauses = 0; literals = 0; pushed = 0 }) w))
+unfolding tabulate view
 start-holds d w r =
     let S = getD (split (shape d) w) 0 [] in
     let b : 0 < length S = rw (split-length (shape d) w 0 (omega arith) (r .fits)) (omega arith) in
@@ -251,36 +281,12 @@ start-holds d w r =
 
 -- ---- the definition's room
 
-stored-more : (xs : List (List ℕ)) (y : List ℕ) → stored-literals (xs ++ (y ∷ [])) ≡ stored-literals xs + length y
-unfolding stored-literals
-stored-more [] y = omega arith
-stored-more (x ∷ xs) y = omega (arith, stored-more xs y)
-
-stored-tabulate : (n : ℕ) (f : ℕ → List ℕ) (at : ℕ → ℕ) → at 0 ≡ 0 → ((c : ℕ) → c < n → at c + length (f c) ≡ at (c + 1)) → stored-literals (tabulate n f) ≡ at n
-unfolding tabulate stored-literals
-stored-tabulate zero f at z s = sym z
-stored-tabulate (suc n) f at z s =
-    stored-more (tabulate n f) (f n)
-    ∙ ap (λ (k : ℕ). k + length (f n)) (stored-tabulate n f at z (λ c g. s c (omega arith)))
-    ∙ s n (omega arith)
-    ∙ ap at (add-one n)
-
 module _ (d : StoreSize) (h : StoreHead) (w : List ℕ) (r : Rep d h w) where
-  pub literals-stored : stored-literals (view d h w .clauses) ≡ h .literals
-  unfolding view
-  literals-stored =
-      let S = getD (split (shape d) w) 0 [] in
-      let L = getD (split (shape d) w) 1 [] in
-      let fits = literals-fit d h w r in
-      stored-tabulate (h .clauses) (clause-in S L) (λ c. getD S c 0) (r .starts .first)
-      (λ c g. omega (arith, clause-length h S L (r .starts) fits c g, r .starts .rising c (c + 1) (omega arith) (omega arith)))
-      ∙ r .starts .last
-
   -- `has_room` tells the definition's has-room
   pub room-is : (cfg : Config) (st : Store) (c : List ℕ) → st .clauses ≡ view d h w .clauses → cfg .max-clauses ≡ d .room → cfg .max-literals ≡ d .«lit_room»
       → has-room cfg st c ≡ (ltb (h .clauses) (d .room) && leb (h .literals + length c) (d .«lit_room»))
   unfolding has-room
-  room-is cfg st c e m l = rw (e, m, l, clauses-length d h w r, literals-stored)
+  room-is cfg st c e m l = rw (e, m, l, clauses-length d h w r, literals-stored d h w r)
 
 -- a sum that may not fit its type is tested by a difference
 pub room-left : (n a l : ℕ) → a ≤ l → leb n (l - a) ≡ leb (a + n) l
@@ -325,6 +331,6 @@ module _ {d : StoreSize} {h r : StoreHead} {w w′ : List ℕ} (k : Rep d h w) w
   after-discard x =
       record { clauses = holds-clauses x ∙ clauses-length d h w k; literals = holds-literals x ∙ literals-stored d h w k; pushed = holds-pushed x }
 
-pub after-start : {d : StoreSize} {r : StoreHead} {w : List ℕ} → Holds d r w no-clauses → Counted r 0 0 0
+pub after-start : {d : StoreSize} {r : StoreHead} {w : List ℕ} (s : Clauses) → Holds d r w (no-clauses s) → Counted r 0 0 0
 unfolding stored-literals
-after-start x = record { clauses = holds-clauses x; literals = holds-literals x; pushed = holds-pushed x }
+after-start s x = record { clauses = holds-clauses x; literals = holds-literals x; pushed = holds-pushed x }

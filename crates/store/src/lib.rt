@@ -123,7 +123,7 @@ pub fn has_room(d: StoreSize, h: StoreHead, n: usize) -> bool
 // The empty store, whatever stood in the slice.
 pub fn start(d: StoreSize, s: &mut [u32]) -> StoreHead
     requires { ⌜ Room d (length (now s)) ⌝ }
-    ensures { λ r. ⌜ Holds d r (now (s .exit)) no-clauses ⌝ }
+    ensures { λ r. ⌜ Holds d r (now (s .exit)) (no-clauses (view d r (now (s .entry)))) ⌝ }
 {
     s[0] = 0;
     StoreHead {

@@ -11,6 +11,7 @@ use Rattle.region.specs.Split.{split, base}
 use Rattle.store.specs.View as sv
 use Rattle.store.specs.View.{Clauses, Counted, clause-of}
 use Rattle.store.specs.Laws.{clauses-length, pushed-length, literals-stored}
+use Rattle.store.specs.Cells.{Lies, clause-lies}
 use Rattle.store.specs.declared.StoreHead.{StoreHead}
 use Rattle.store.specs.declared.StoreSize.{StoreSize}
 use Rattle.state.specs.declared.Sizes.{Sizes}
@@ -30,6 +31,11 @@ pub clause-inside : (cs : List (List ℕ)) (c i : ℕ) → i < length (getD cs c
 clause-inside [] c i h = absurd (not-suc-le-zero h)
 clause-inside (x ∷ cs) zero i h = omega arith
 clause-inside (x ∷ cs) (suc c) i h = omega (arith, clause-inside cs c i h)
+
+-- a clause stands in the literals' cells
+pub lies-in : (d : Sizes) (h : Header) (w : List ℕ) (c : ℕ) → Lies (whole d h w .clauses) c
+unfolding whole
+lies-in d h w c = clause-lies (store-size d) (h .store) (getD (split (shape d) w) 3 []) c
 
 module _ (d : Sizes) (h : Header) (w : List ℕ) (r : Rep d h w) where
   -- the header counts the clauses, their literals, and the literals pushed

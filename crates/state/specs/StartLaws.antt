@@ -3,9 +3,10 @@ use Prim.Native.Nat.{ℕ, _+_, _-_, _*_, _≤_, _<_}
 use native.Mathlib.Omega.{arith}
 use mathlib.Core.Bool.{true}
 use mathlib.Core.Path.{_≡_, sym, ap, subst, _∙_}
+use mathlib.Core.Logic.{_≢_}
 use mathlib.Core.List.{List, [], _∷_, _++_}
 use lib.ListN.{length, getD, set, take, drop, replicate, length-replicate, getD-replicate}
-use lib.Seq.{ext-getD}
+use lib.Seq.{ext-getD, getD-set-other}
 use Rattle.region.specs.Split.{split, base}
 use Rattle.region.specs.Laws.{split-length}
 use Rattle.model.specs.State.{initial-state}
@@ -51,6 +52,10 @@ pub record Unlisted (d : Sizes) (b : List ℕ) : Type 0 where
   pub watches : as-watches (wv.view (lists-size d) b) ≡ replicate (2 * d .vars) []
   pub under : Under 0 (wv.view (lists-size d) b .lists)
 
+-- no clause in b, in the cells of w
+abbrev pub Unstored : Sizes → List ℕ → StoreHead → List ℕ → Type 0
+Unstored d w s b = sv.Holds (store-size d) s b (no-clauses (sv.view (store-size d) s (getD (split (shape d) w) 3 [])))
+
 -- what `start` leaves of w₀
 pub record Started (d : Sizes) (r : Header) (w₀ w : List ℕ) : Type 0 where
   pub rep : Rep d r w
@@ -58,6 +63,7 @@ pub record Started (d : Sizes) (r : Header) (w₀ w : List ℕ) : Type 0 where
   pub assignment : whole d r w .assignment ≡ initial-assignment (d .vars) (whole d r w₀ .assignment)
   pub marks : whole d r w .scratch .marks ≡ replicate (d .vars) 0
   pub lists : whole d r w .watches .lists ≡ replicate (2 * d .vars) []
+  pub clauses : whole d r w .clauses ≡ no-clauses (whole d r w₀ .clauses)
   pub pushed : whole d r w .clauses .pushed ≡ []
   pub final : whole d r w .final ≡ []
   pub fresh : Fresh (whole d r w)
@@ -87,13 +93,21 @@ unlisted-is d b ys k =
       under = rw (k .view) (emptied-under 0 (2 * d .vars) (wv.view (lists-size d) b));
     }
 
+pub unstored-is : (d : Sizes) (w b : List ℕ) (s : StoreHead) (ys : List ℕ) → b ≡ getD (split (shape d) w) 3 [] → sv.Holds (store-size d) s ys (no-clauses (sv.view (store-size d) s b))
+    → Unstored d w s ys
+unstored-is d w b s ys e k = rw e at k
+
+-- the other blocks are as they were
+other-block : {d : Sizes} {w w′ : List ℕ} {k : ℕ} {P : List ℕ → Type 0} → Filled d w w′ k P → (j : ℕ) → j ≢ k → getD (split (shape d) w′) j [] ≡ getD (split (shape d) w) j []
+other-block {d} {w} {k = k} f j n = ap (λ (ps : List (List ℕ)). getD ps j []) (f .parts) ∙ getD-set-other (split (shape d) w) k j (f .block) [] n
+
 -- the blocks together
 module _ (d : Sizes) (t : TrailHead) (s : StoreHead) (f : Head) (ps : List (List ℕ)) where
   abbrev pub first-head : Header
   first-head = record { trail = t; store = s; finals = f; qhead = 0; ok = true }
 
   module _ (w₀ : List ℕ) (trail : Unassigned d w₀ t (getD ps 0 [])) (scratch : Unmarked d (getD ps 1 [])) (watches : Unlisted d (getD ps 2 []))
-      (store : sv.Holds (store-size d) s (getD ps 3 []) no-clauses) (final : lv.Holds (final-size d) f (getD ps 4 []) []) where
+      (store : Unstored d w₀ s (getD ps 3 [])) (final : lv.Holds (final-size d) f (getD ps 4 []) []) where
     all-blocks : Blocks d first-head ps
     all-blocks = record { trail = trail .rep; scratch = scratch .room; watch = watches .rep; store = store .rep; final = final .rep }
 
@@ -105,13 +119,14 @@ module _ (d : Sizes) (t : TrailHead) (s : StoreHead) (f : Head) (ps : List (List
     unfolding whole
     all-filled w room e =
         let same : whole d first-head w ≡ pack d first-head ps (drop (used d) w) = ap (λ (qs : List (List ℕ)). pack d first-head qs (drop (used d) w)) e in
-        let none : sv.view (store-size d) s (getD ps 3 []) ≡ no-clauses = store .view in
+        let none : sv.view (store-size d) s (getD ps 3 []) ≡ no-clauses (sv.view (store-size d) s (getD (split (shape d) w₀) 3 [])) = store .view in
         record {
           rep = record { room = room; blocks = subst (Blocks d first-head) (sym e) all-blocks };
           state = ap (state-of first-head) same ∙ first-state (drop (used d) w);
           assignment = ap (λ (x : Whole). x .assignment) same ∙ trail .view;
           marks = ap (λ (x : Whole). x .scratch .marks) same ∙ scratch .marks;
           lists = ap (λ (x : Whole). x .watches .lists) same ∙ watches .lists;
+          clauses = ap (λ (x : Whole). x .clauses) same ∙ none;
           pushed = ap (λ (x : Whole). x .clauses .pushed) same ∙ ap (λ (x : Clauses). x .pushed) none;
           final = ap (λ (x : Whole). x .final) same ∙ final .view;
           fresh = subst Fresh (sym same) (record { under = rw none (watches .under) });
@@ -121,7 +136,7 @@ pub started : (d : Sizes) (w w₁ w₂ w₃ w₄ w₅ : List ℕ) (t : TrailHead
     → Filled d w w₁ 0 (Unassigned d w t)
     → Filled d w₁ w₂ 1 (Unmarked d)
     → Filled d w₂ w₃ 2 (Unlisted d)
-    → Filled d w₃ w₄ 3 (λ b. sv.Holds (store-size d) s b no-clauses)
+    → Filled d w₃ w₄ 3 (Unstored d w₃ s)
     → Filled d w₄ w₅ 4 (λ b. lv.Holds (final-size d) f b [])
     → Started d (record { trail = t; store = s; finals = f; qhead = 0; ok = true }) w w₅
 started d w w₁ w₂ w₃ w₄ w₅ t s f room a b c e g =
@@ -130,7 +145,8 @@ started d w w₁ w₂ w₃ w₄ w₅ t s f room a b c e g =
     g .parts
     ∙ ap (λ (ps : List (List ℕ)). set ps 4 (g .block)) (e .parts ∙ ap (λ (ps : List (List ℕ)). set ps 3 (e .block)) (c .parts ∙ ap (λ (ps : List (List ℕ)). set ps 2 (c .block)) (b .parts ∙ ap (λ (ps : List (List ℕ)). set ps 1 (b .block)) (a .parts))))
     in
-    all-filled d t s f (a .block ∷ b .block ∷ c .block ∷ e .block ∷ g .block ∷ []) w (a .holds) (b .holds) (c .holds) (e .holds) (g .holds) w₅ (rw size room) parts
+    let stores : Unstored d w s (e .block) = rw (other-block c 3 (λ q. omega arith), other-block b 3 (λ q. omega arith), other-block a 3 (λ q. omega arith)) at (e .holds) in
+    all-filled d t s f (a .block ∷ b .block ∷ c .block ∷ e .block ∷ g .block ∷ []) w (a .holds) (b .holds) (c .holds) stores (g .holds) w₅ (rw size room) parts
 
 pub started-behind : {d : Sizes} {w w₁ w₂ w₃ w₄ w₅ : List ℕ} {P Q R S T : List ℕ → Type 0} → Filled d w w₁ 0 P → Filled d w₁ w₂ 1 Q → Filled d w₂ w₃ 2 R → Filled d w₃ w₄ 3 S → Filled d w₄ w₅ 4 T
     → drop (used d) w₅ ≡ drop (used d) w

@@ -3,11 +3,9 @@ ghost use mathlib.Core.Path.{_≡_};
 ghost use mathlib.Core.List.{[]};
 ghost use Prim.Native.Nat.{_*_};
 ghost use lib.ListN.{length, drop, replicate};
-ghost use Rattle.store.specs.View.{no-clauses};
-ghost use Rattle.store.specs.View as sv;
 ghost use Rattle.litset.specs.View as lv;
-ghost use Rattle.state.specs.View.{Room, used, store-size, final-size};
-ghost use Rattle.state.specs.StartLaws.{Filled, Unassigned, Unmarked, Unlisted, Started};
+ghost use Rattle.state.specs.View.{Room, used, final-size};
+ghost use Rattle.state.specs.StartLaws.{Filled, Unassigned, Unmarked, Unlisted, Unstored, Started};
 use super::Header;
 use super::Sizes;
 use litset::Head;
@@ -49,7 +47,7 @@ fn fill_watches(d: Sizes, work: &mut [u32])
 
 fn fill_store(d: Sizes, work: &mut [u32]) -> StoreHead
     requires { ⌜ Room d (length (now work)) ⌝ }
-    ensures { λ r. ⌜ Filled d (now (work .entry)) (now (work .exit)) 3 (λ b. sv.Holds (store-size d) r b no-clauses) ⌝ }
+    ensures { λ r. ⌜ Filled d (now (work .entry)) (now (work .exit)) 3 (Unstored d (now (work .entry)) r) ⌝ }
 {
     let a = 19 * d.vars + 4 * d.room;
     let e = 19 * d.vars + 5 * d.room + 1 + d.lit_room;

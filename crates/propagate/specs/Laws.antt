@@ -13,7 +13,8 @@ use borrow.Author.Tests.{eq-eqb, ne-eqb}
 use Rattle.model.specs.Lit.{neg, value-lit, is-true, is-false}
 use Rattle.model.specs.Propagate.{false-second, new-watch}
 use Rattle.trail.specs.View.{enqueued}
-use Rattle.store.specs.View.{Clauses, clause-of, lit-set}
+use Rattle.store.specs.View.{Clauses, clause-of, lit-set, written}
+use Rattle.store.specs.Cells.{Lies, written-set}
 use Rattle.watch.specs.View.{list-of, blocked}
 use Rattle.watch.specs.Walk.{Stands}
 use Rattle.watch.specs.declared.Cursor.{Cursor}
@@ -31,6 +32,13 @@ use Rattle.propagate.specs.View.{put-clause, place-of, Passed, at-cursor
 
 -- ---- literals of a clause set
 
+-- the cells of l, once two of its literals are written, are those of the clause with these two
+written-twice : (cells : List ℕ) (at : ℕ) (l : List ℕ) → written cells at l ≡ cells → (i a : ℕ) → i < length l → (j b : ℕ) → j < length l
+    → written cells at (set (set l i a) j b) ≡ set (set cells (at + i) a) (at + j) b
+written-twice cells at l e i a hi j b hj =
+    written-set cells at (set l i a) j b (rw length-set hj)
+    ∙ ap (λ (xs : List ℕ). set xs (at + j) b) (written-set cells at l i a hi ∙ ap (λ (xs : List ℕ). set xs (at + i) a) e)
+
 module _ (cs : List (List ℕ)) (c i : ℕ) (h : i < length (getD cs c [])) (l : List ℕ) where
   pub put-same : getD (set cs c l) c [] ≡ l
   put-same = getD-set-same cs c l [] (clause-inside cs c i h)
@@ -43,21 +51,24 @@ module _ (x : Whole) {y : Whole} (c i a : ℕ) (h : i < length (clause-of (x .cl
       ∙ length-set (clause-of (x .clauses) c) i a
 
   -- one literal, and another
-  pub set-twice : (j b : ℕ) → with-clauses y (lit-set (y .clauses) c j b) ≡ with-clauses x (put-clause (x .clauses) c (set (set (clause-of (x .clauses) c) i a) j b))
-  set-twice j b =
+  pub set-twice : Lies (x .clauses) c → (j b : ℕ) → j < length (clause-of (x .clauses) c)
+      → with-clauses y (lit-set (y .clauses) c j b) ≡ with-clauses x (put-clause (x .clauses) c (set (set (clause-of (x .clauses) c) i a) j b))
+  set-twice lies j b hj =
       ap (λ (z : Whole). with-clauses z (lit-set (z .clauses) c j b)) e
-      ∙ ap (λ (l : List (List ℕ)). with-clauses x (record { clauses = l; pushed = x .clauses .pushed }))
+      ∙ ap₂ (λ (l : List (List ℕ)) (cells : List ℕ). with-clauses x (record { clauses = l; pushed = x .clauses .pushed; start-cells = x .clauses .start-cells; lit-cells = cells }))
       (ap (λ (l : List ℕ). set (set (x .clauses .clauses) c (set (clause-of (x .clauses) c) i a)) c (set l j b)) (put-same (x .clauses .clauses) c i h (set (clause-of (x .clauses) c) i a))
       ∙ set-set (x .clauses .clauses) c (set (clause-of (x .clauses) c) i a) (set (set (clause-of (x .clauses) c) i a) j b))
+      (sym (written-twice (x .clauses .lit-cells) (getD (x .clauses .start-cells) c 0) (clause-of (x .clauses) c) lies i a h j b hj))
 
 -- ---- the false literal second
 
 module _ (x : Whole) (c f : ℕ) where
-  pub second-kept : getD (clause-of (x .clauses) c) 0 0 ≢ f → x ≡ with-clauses x (put-clause (x .clauses) c (false-second f (clause-of (x .clauses) c)))
+  pub second-kept : Lies (x .clauses) c → getD (clause-of (x .clauses) c) 0 0 ≢ f → x ≡ with-clauses x (put-clause (x .clauses) c (false-second f (clause-of (x .clauses) c)))
   unfolding false-second
-  second-kept n =
+  second-kept lies n =
       rw (ne-eqb (getD (clause-of (x .clauses) c) 0 0) f n, false-second)
-      (ap (λ (l : List (List ℕ)). with-clauses x (record { clauses = l; pushed = x .clauses .pushed })) (sym (set-getD (x .clauses .clauses) c [])))
+      (ap₂ (λ (l : List (List ℕ)) (cells : List ℕ). with-clauses x (record { clauses = l; pushed = x .clauses .pushed; start-cells = x .clauses .start-cells; lit-cells = cells }))
+      (sym (set-getD (x .clauses .clauses) c [])) (sym lies))
 
 pub second-moved : (f : ℕ) (l : List ℕ) → getD l 0 0 ≡ f → false-second f l ≡ set (set l 0 (getD l 1 0)) 1 f
 unfolding false-second
@@ -135,11 +146,11 @@ clause-stands x s p {c} k a = subst (λ (z : Whole). Stands c (list-of (z .watch
 
 -- ---- a watch that goes
 
-pub exchange : (x : Whole) {y z : Whole} (c : Cursor) (p k l f : ℕ) → 2 ≤ length (at-cursor x c) → l ≡ getD (at-cursor x c) k 0 → f ≡ neg p
+pub exchange : (x : Whole) {y z : Whole} (c : Cursor) (p k l f : ℕ) → Lies (x .clauses) (c .cur / 2) → k < length (at-cursor x c) → 2 ≤ length (at-cursor x c) → l ≡ getD (at-cursor x c) k 0 → f ≡ neg p
     → y ≡ with-clauses x (lit-set (x .clauses) (c .cur / 2) 1 l) → z ≡ with-clauses y (lit-set (y .clauses) (c .cur / 2) k f) → z ≡ exchanged x c p k
-exchange x c p k l f two el ef ey ez =
+exchange x c p k l f lies inside two el ef ey ez =
     ez
-    ∙ set-twice x (c .cur / 2) 1 l (omega arith) ey k f
+    ∙ set-twice x (c .cur / 2) 1 l (omega arith) ey lies k f inside
     ∙ ap₂ (λ a b. with-clauses x (put-clause (x .clauses) (c .cur / 2) (set (set (at-cursor x c) 1 a) k b))) el ef
 
 pub gone-as : {d : Sizes} {h : Header} {w : List ℕ} {p m n b : ℕ} {x y : Whole} {c r : Cursor} → Gone d h w p m b x c r → m ≡ n → x ≡ y → Gone d h w p n b y c r

@@ -11,7 +11,7 @@ use Rattle.model.specs.Propagate as Definition
 use Rattle.model.specs.Propagate.{new-watch}
 use Rattle.lawbase.specs.Basics.{_∈_}
 use Rattle.trail.specs.View.{LitsOf, enqueued}
-use Rattle.store.specs.View.{Clauses, clause-of}
+use Rattle.store.specs.View.{Clauses, clause-of, written}
 use Rattle.watch.specs.View.{list-of, blocked}
 use Rattle.watch.specs.Walk.{Stands}
 use Rattle.watch.specs.declared.Cursor.{Cursor}
@@ -29,7 +29,8 @@ use Rattle.propagate.specs.declared.Propagated.{Propagated}
 
 -- clause c becomes l
 abbrev pub put-clause : Clauses → ℕ → List ℕ → Clauses
-put-clause s c l = record { clauses = set (s .clauses) c l; pushed = s .pushed }
+put-clause s c l =
+    record { clauses = set (s .clauses) c l; pushed = s .pushed; start-cells = s .start-cells; lit-cells = written (s .lit-cells) (getD (s .start-cells) c 0) l }
 
 -- the place that a search found, or n
 abbrev pub place-of : ℕ → Option ℕ → ℕ

@@ -6,6 +6,7 @@ use lib.ListN.{set}
 use borrow.Author.Needs.{needs}
 use Rattle.store.specs.View.{clause-of}
 use Rattle.state.specs.View.{whole, with-clauses}
+use Rattle.state.specs.ClauseLaws.{lies-in}
 use Rattle.propagate.specs.View.{put-clause}
 use Rattle.propagate.specs.Laws.{second-kept, second-moved, set-length, set-twice}
 use Rattle.propagate.proofs.false_second.Statement.{statement}
@@ -22,7 +23,7 @@ returns c =
     let c3 = c .before .before .before in
     let c6 = c3 .before .before .before in
     let a = c6 .args in
-    record { rep = c6 .pre .0; whole = second-kept (whole (a .d) (a .h) (a .work .now)) (a .c) (a .f .0) (λ q. c .if1 .taken (c3 .lit-at .ensures ∙ q)) }
+    record { rep = c6 .pre .0; whole = second-kept (whole (a .d) (a .h) (a .work .now)) (a .c) (a .f .0) (lies-in (a .d) (a .h) (a .work .now) (a .c)) (λ q. c .if1 .taken (c3 .lit-at .ensures ∙ q)) }
 
 lit-at-requires-2 : tie.Need-lit-at-requires-2
 lit-at-requires-2 c κs = search needs
@@ -58,7 +59,7 @@ returns-2 c =
       rep = v .rep;
       whole =
           v .whole
-          ∙ set-twice x (a .c) 0 _ (omega (arith, c16 .pre .1)) (u .whole) 1 (a .f .0)
+          ∙ set-twice x (a .c) 0 _ (omega (arith, c16 .pre .1)) (u .whole) (lies-in (a .d) (a .h) (a .work .now) (a .c)) 1 (a .f .0) (omega (arith, c16 .pre .1))
           ∙ ap (λ (m : List ℕ). with-clauses x (put-clause (x .clauses) (a .c) m))
           (ap (λ b. set (set l 0 b) 1 (a .f .0)) (c8 .lit-at2 .ensures) ∙ sym (second-moved (a .f .0) l (sym (c13 .lit-at .ensures) ∙ c10 .if1 .left)));
     }

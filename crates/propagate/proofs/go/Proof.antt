@@ -1,9 +1,11 @@
+use Prim.Native.Nat.{_/_}
 use native.Mathlib.Omega.{arith}
 use mathlib.Core.Path.{_≡_, ap, _∙_}
 use lib.ListN.{getD}
 use Rattle.model.specs.Lit.{neg}
 use borrow.Author.Needs.{needs}
 use Rattle.state.specs.View.{whole}
+use Rattle.state.specs.ClauseLaws.{lies-in}
 use Rattle.lawbase.specs.Basics.{neg-range}
 use Rattle.propagate.specs.View.{at-cursor}
 use Rattle.propagate.specs.Laws.{set-length, clause-stands, exchange, gone-as}
@@ -69,7 +71,7 @@ returns c =
     let u = c10 .set-lit .ensures in
     let v = c6 .set-lit2 .ensures in
     gone-as (c2 .leave .ensures) (c12 .negate2 .ensures ∙ ap neg (c13 .lit-at .ensures))
-    (exchange x (a .c) (a .p .0) (a .k) _ _ (p .1 .1 .1 .two) (c13 .lit-at .ensures) (c15 .negate .ensures) (u .whole) (v .whole))
+    (exchange x (a .c) (a .p .0) (a .k) _ _ (lies-in (a .d) (a .h) (a .work .now) (a .c .cur / 2)) (p .1 .1 .1 .inside) (p .1 .1 .1 .two) (c13 .lit-at .ensures) (c15 .negate .ensures) (u .whole) (v .whole))
 
 pub go-spec : {M : Type 1} → statement M
 go-spec =

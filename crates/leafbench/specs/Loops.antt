@@ -148,7 +148,7 @@ module _ {d : Sizes} {h a b r : Header} {w w₁ w₂ w₃ : List ℕ} (ps : List
 
 -- ---- the start
 
-module _ {d : Sizes} {r : Header} {w : List ℕ} (k : Started d r w) where
+module _ {d : Sizes} {r : Header} {w₀ w : List ℕ} (k : Started d r w₀ w) where
   pub begun-trail : r .trail ≡ counts 0 0
   unfolding initial-state
   begun-trail =
@@ -227,9 +227,9 @@ pub record Row (d : Sizes) (h : Header) (x : Whole) (r : Header) (w : List ℕ) 
 abbrev pub Ample : Sizes → Type 0
 Ample d = (64 ≤ d .vars) × (32 ≤ d .room) × (96 ≤ d .«lit_room»)
 
-pub row-begun : {d : Sizes} {r : Header} {w : List ℕ} → Ample d → Live d r w → Started d r w → Row d r (whole d r w) r w 0
+pub row-begun : {d : Sizes} {r : Header} {w₀ w : List ℕ} → Ample d → Live d r w → Started d r w₀ w → Row d r (whole d r w) r w 0
 unfolding evens
-row-begun {d} {r} {w} a v k =
+row-begun {d} {r} {w₀} {w} a v k =
     record {
       live = v;
       clauses = begun-clauses k;
@@ -352,7 +352,7 @@ module _ {A : Type 0} (m n : ℕ) (refused x : A) where
   long-enough g h = lt-no _ _ m 1986 g ∙ lt-no _ _ n 64 h
 
 -- the watches that were laid out, once the literals ps are on the trail
-module _ {d : Sizes} {h a b : Header} {w w₁ w₂ : List ℕ} (ps : List ℕ) (k : Started d h w) (ample : Ample d) (row : Row d h (whole d h w) a w₁ 32)
+module _ {d : Sizes} {h a b : Header} {w₀ w w₁ w₂ : List ℕ} (ps : List ℕ) (k : Started d h w₀ w) (ample : Ample d) (row : Row d h (whole d h w) a w₁ 32)
     (fills : At d b w₂ (filled d (stage a (whole d a w₁)) ps)) where
   pub lined-filled : Lined (whole d b w₂) 32
   lined-filled =

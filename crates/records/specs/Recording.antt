@@ -152,7 +152,7 @@ pub record Recording (g : Config) (s out₀ : List ℕ) (x : search.Solver) (at 
 
 -- the first state
 module _ (g : Config) (l : Limited (config-of g)) (h : Header) (inc : Float) (w : List ℕ) (acts : List Float) (n : ℕ) (counted : n ≡ g .sizes .vars)
-    (kept : length acts ≡ n) (started : Started (g .sizes) h w) (filled : activity acts inc ≡ initial-activity n) where
+    (kept : length acts ≡ n) {w₀ : List ℕ} (started : Started (g .sizes) h w₀ w) (filled : activity acts inc ≡ initial-activity n) where
   abbrev first : search.Solver
   first = record { head = h; inc = inc }
 

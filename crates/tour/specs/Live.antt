@@ -59,7 +59,7 @@ lits-fewer n (suc m) (x ∷ xs) k (suc i) b = lits-fewer n m xs (λ j a. k (suc 
 
 -- ---- the steps
 
-pub live-started : {d : Sizes} {h : Header} {w : List ℕ} → Started d h w → Live d h w
+pub live-started : {d : Sizes} {h : Header} {w₀ w : List ℕ} → Started d h w₀ w → Live d h w
 unfolding initial-state
 live-started {d} k =
     record { rep = k .rep; fresh = k .fresh; lits = lits-none (d .vars) _ (ap (λ (s : State). s .vars .trail) (k .state)) }

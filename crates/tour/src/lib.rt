@@ -19,7 +19,7 @@ use state::watches;
 pub fn begin(d: Sizes, work: &mut [u32]) -> Header
     requires { ⌜ Room d (length (now work)) ⌝ }
     ensures { λ r. ⌜ Live d r (now (work .exit)) ⌝ }
-    ensures { λ r. ⌜ Started d r (now (work .exit)) ⌝ }
+    ensures { λ r. ⌜ Started d r (now (work .entry)) (now (work .exit)) ⌝ }
 {
     start::start(d, work)
 }

@@ -9,7 +9,8 @@ use lib.Seq.{take-suc, getD-take, length-take-le}
 use Rattle.model.specs.State as state
 use Rattle.model.specs.State.{Store}
 use Rattle.model.specs.Store.{stored-literals, attach-clause}
-use Rattle.store.specs.View.{lit-pushed}
+use Rattle.store.specs.View.{lit-pushed, put-pushed}
+use Rattle.store.specs.Cells.{put-pushed-more}
 use Rattle.state.specs.declared.Sizes.{Sizes}
 use Rattle.state.specs.declared.Header.{Header}
 use Rattle.state.specs.declared.Config.{Config}
@@ -33,7 +34,7 @@ pub record Storing (d : Sizes) (x : Whole) (n : ℕ) : Type 0 where
 
 -- with l as the literals pushed
 abbrev pub with-pushed : Whole → List ℕ → Whole
-with-pushed x l = with-clauses x (record { clauses = x .clauses .clauses; pushed = l })
+with-pushed x l = with-clauses x (put-pushed (x .clauses) l)
 
 -- the header with n literals pushed
 abbrev pub head-pushed : Header → ℕ → Header
@@ -53,8 +54,9 @@ module _ (d : Sizes) (h : Header) (w : List ℕ) (rep : Rep d h w) where
   pub pushing-starts : whole d h w .clauses .pushed ≡ [] → Pushing d h h w w 0
   pushing-starts e =
       let z : h .store .pushed ≡ 0 = pushed-is d h w rep ∙ ap length e in
+      let s = whole d h w .clauses in
       record {
-        holds = record { rep = rep; whole = ap (λ (l : List ℕ). with-pushed (whole d h w) l) e };
+        holds = record { rep = rep; whole = ap (λ (l : List ℕ). with-clauses (whole d h w) (record { clauses = s .clauses; pushed = l; start-cells = s .start-cells; lit-cells = s .lit-cells })) e };
         head = ap (λ (n : ℕ). head-pushed h n) z;
       }
 
@@ -69,7 +71,10 @@ module _ (d : Sizes) (h : Header) (w : List ℕ) (rep : Rep d h w) where
       pub pushing-turns : {r′ : Header} {w₂ : List ℕ} → i < n → Pushed d r r′ w₁ w₂ (getD (buffer-of d r w₁) i 0) → Pushing d h r′ w w₂ (i + 1)
       pushing-turns {r′} {w₂} g k =
           let e : take (i + 1) (buffer-of d h w) ≡ take i (buffer-of d h w) ++ (getD (buffer-of d h w) i 0 ∷ []) = rw add-one (take-suc (buffer-of d h w) i 0 (omega (arith, but-length rep, s .cells))) in
-          let f : whole d r′ w₂ ≡ with-pushed (whole d h w) (take i (buffer-of d h w) ++ (getD (buffer-of d h w) i 0 ∷ [])) = k .holds .whole ∙ ap (λ (y : Whole). with-clauses y (lit-pushed (y .clauses) (getD (y .scratch .buffer) i 0))) (p .holds .whole) in
+          let f : whole d r′ w₂ ≡ with-pushed (whole d h w) (take i (buffer-of d h w) ++ (getD (buffer-of d h w) i 0 ∷ [])) =
+          k .holds .whole
+          ∙ ap (λ (y : Whole). with-clauses y (lit-pushed (y .clauses) (getD (y .scratch .buffer) i 0))) (p .holds .whole)
+          ∙ ap (with-clauses (whole d h w)) (put-pushed-more (whole d h w .clauses) (take i (buffer-of d h w)) (getD (buffer-of d h w) i 0)) in
           record {
             holds = record { rep = k .holds .rep; whole = rw e f };
             head = k .head ∙ ap (λ (y : Header). head-pushed y (y .store .pushed + 1)) (p .head);

@@ -14,7 +14,8 @@ use Rattle.model.specs.State.{State, VarState, initial-state, decision-level}
 use Rattle.model.specs.Trail.{unchecked-enqueue, new-decision-level, vars-until, level-end}
 use Rattle.model.specs.Store.{stored-literals}
 use Rattle.trail.specs.View.{LitsOf, Undoable, enqueued, next-level, until}
-use Rattle.store.specs.View.{lit-pushed, discarded}
+use Rattle.store.specs.View.{lit-pushed, discarded, put-pushed}
+use Rattle.store.specs.Cells.{put-pushed-more}
 use Rattle.watch.specs.View.{list-of, blocked}
 use Rattle.watch.specs.Walk.{Stands}
 use Rattle.watch.specs.declared.Cursor.{Cursor}
@@ -119,7 +120,7 @@ undoable {d} {h} {w} v level a b ea t et eb ha hb =
 -- ---- three literals are pushed, after what was pushed before is given up
 
 abbrev pub with-pushed : Whole → List ℕ → Whole
-with-pushed x ps = with-clauses x (record { clauses = x .clauses .clauses; pushed = ps })
+with-pushed x ps = with-clauses x (put-pushed (x .clauses) ps)
 
 -- room for the literal that comes after ps
 pub roomy : {d : Sizes} {h r : Header} {w w′ : List ℕ} (v : Live d h w) (ps : List ℕ) → Holds d r w′ (with-pushed (whole d h w) ps)
@@ -135,7 +136,14 @@ storable {d} {h} {r} {w} {w′} v p q s k g hp hq =
 -- one literal more
 pub one-more : {d : Sizes} {r t : Header} {w₁ w₂ : List ℕ} (h : Header) (w : List ℕ) (ps : List ℕ) (p : ℕ) → Holds d r w₁ (with-pushed (whole d h w) ps)
     → Holds d t w₂ (with-clauses (whole d r w₁) (lit-pushed (whole d r w₁ .clauses) p)) → Holds d t w₂ (with-pushed (whole d h w) (ps ++ (p ∷ [])))
-one-more h w ps p k g = rw (k .whole) at g
+one-more {d} h w ps p k g =
+    record {
+      rep = g .rep;
+      whole =
+          g .whole
+          ∙ ap (λ (x : Whole). with-clauses x (lit-pushed (x .clauses) p)) (k .whole)
+          ∙ ap (with-clauses (whole d h w)) (put-pushed-more (whole d h w .clauses) ps p);
+    }
 
 pub live-pushed : {d : Sizes} {h r : Header} {w w′ : List ℕ} (v : Live d h w) (ps : List ℕ) → Holds d r w′ (with-pushed (whole d h w) ps) → Live d r w′
 live-pushed v ps k = live-of k (record { under = v .fresh .under }) (v .lits)

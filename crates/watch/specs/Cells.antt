@@ -1,13 +1,14 @@
--- Reading and setting a cell of each kind.
+-- Reading and setting a cell of each kind; and every cell shows.
 use Prim.Native.Nat.{ℕ, _+_, _*_, _≤_, _<_}
 use native.Mathlib.Omega.{arith}
-use mathlib.Core.Path.{_≡_, refl, sym, ap, _∙_}
-use mathlib.Core.List.{List, []}
+use mathlib.Core.Path.{_≡_, refl, sym, ap, ap₂, _∙_}
+use mathlib.Core.List.{List, [], _∷_}
 use lib.ListN.{length, getD, set, length-set}
-use Rattle.region.specs.Split.{split, base, put}
+use Rattle.region.specs.Split.{split, base, total, put}
 use Rattle.region.specs.Laws.{set-in, get-in, split-length}
-use Rattle.watch.specs.Stride.{column-length, column-get, column-set, column-other}
-use Rattle.watch.specs.View.{shape, Room, Cells, parts, cells, with-head, with-tail, with-count, with-next, with-blocker, Laid}
+use Rattle.region.specs.Whole.{split-same}
+use Rattle.watch.specs.Stride.{column-length, column-get, column-set, column-other, columns-same}
+use Rattle.watch.specs.View.{shape, Room, Cells, Watches, parts, cells, view, with-head, with-tail, with-count, with-next, with-blocker, Laid}
 use Rattle.watch.specs.declared.Lists.{Lists}
 
 module _ (d : Lists) (w : List ℕ) (r : Room d (length w)) where
@@ -89,3 +90,26 @@ module _ (d : Lists) (w : List ℕ) (r : Room d (length w)) where
         let ns = getD (split (shape d) w) 3 [] in
         laid 3 (2 * x + 0) v (3 * d .slots + 2 * x) (omega arith) (omega arith) _
         (rw (column-set 2 (d .nodes) ns x 0 v (omega arith) h nodes-fit, column-other 2 (d .nodes) ns x 0 v (omega arith) 1 (omega arith) (omega arith)))
+
+-- ---- every cell shows
+
+module _ (d : Lists) (w w′ : List ℕ) (l : total (shape d) ≡ length w) (l′ : length w ≡ length w′) where
+  nodes-same : cells d w ≡ cells d w′ → getD (split (shape d) w) 3 [] ≡ getD (split (shape d) w′) 3 []
+  unfolding cells
+  nodes-same e =
+      columns-same (d .nodes) _ _ (split-length (shape d) w 3 (omega arith) (omega arith)) (split-length (shape d) w′ 3 (omega arith) (omega arith))
+      (ap (λ (c : Cells). c .blockers) e) (ap (λ (c : Cells). c .nexts) e)
+
+  regions-same : cells d w ≡ cells d w′ → split (shape d) w ≡ split (shape d) w′
+  unfolding cells
+  regions-same e =
+      let h = ap (λ (c : Cells). c .heads) e in
+      let t = ap (λ (c : Cells). c .tails) e in
+      let n = ap (λ (c : Cells). c .counts) e in
+      ap₂ _∷_ h (ap₂ _∷_ t (ap₂ _∷_ n (ap (λ (xs : List ℕ). xs ∷ []) (nodes-same e))))
+
+-- two slices of the block's length that show the same are the same
+pub all-shown : (d : Lists) (w w′ : List ℕ) → total (shape d) ≡ length w → length w ≡ length w′ → view d w ≡ view d w′ → w ≡ w′
+unfolding view
+all-shown d w w′ l l′ e =
+    split-same (shape d) w w′ (sym l) (sym l′ ∙ sym l) (regions-same d w w′ l l′ (ap (λ (s : Watches). s .cells) e))

@@ -1,12 +1,13 @@
 -- A table of records of n cells each, laid end to end: field f of record i is cell n * i + f.
 use Prim.Native.Nat.{ℕ, suc, _+_, _*_, _/_, _%_, _≤_, _<_}
 use native.Mathlib.Omega.{arith}
+use native.Mathlib.Decide.{ℕ-discrete}
 use native.Mathlib.Nat.{mod-eq-of-lt, mul-add-mod-self-left, mul-add-div, div-eq-of-lt, mul-le-mul-left, mul-suc}
 use mathlib.Core.Path.{_≡_, sym, ap, _∙_}
 use mathlib.Core.Logic.{_≢_}
 use mathlib.Core.List.{List}
 use lib.ListN.{length, getD, set}
-use lib.Seq.{getD-set-same, getD-set-other}
+use lib.Seq.{ext-getD, getD-set-same, getD-set-other}
 use Rattle.region.specs.Table.{tabulate, length-tabulate, getD-tabulate, tabulate-same, tabulate-set}
 
 -- field f of each of m records
@@ -44,3 +45,16 @@ module _ (n m : ℕ) (xs : List ℕ) (i f v : ℕ) (hf : f < n) where
   column-other g hg q =
       tabulate-same m (λ j. getD (set xs (n * i + f) v) (n * j + g) 0) (λ j. getD xs (n * j + g) 0)
       (λ j hj. getD-set-other xs (n * i + f) (n * j + g) v 0 (λ e. q (sym (field-of n j g hg) ∙ ap (λ k. k % n) e ∙ field-of n i f hf)))
+
+-- two tables of m records of two cells with the same columns are the same
+module _ (m : ℕ) (xs ys : List ℕ) where
+  cell-same : (f i : ℕ) → column 2 f m xs ≡ column 2 f m ys → i / 2 < m → i ≡ 2 * (i / 2) + f → getD xs i 0 ≡ getD ys i 0
+  cell-same f i e h q =
+      ap (λ j. getD xs j 0) q ∙ sym (column-get 2 f m xs (i / 2) h) ∙ ap (λ (zs : List ℕ). getD zs (i / 2) 0) e ∙ column-get 2 f m ys (i / 2) h ∙ ap (λ j. getD ys j 0) (sym q)
+
+  pub columns-same : length xs ≡ 2 * m → length ys ≡ 2 * m → column 2 0 m xs ≡ column 2 0 m ys → column 2 1 m xs ≡ column 2 1 m ys → xs ≡ ys
+  columns-same l l′ e e′ = ext-getD 0 xs ys (l ∙ sym l′) (λ i h. go i (omega arith) (ℕ-discrete i (2 * (i / 2) + 0)))
+    where
+      go : (i : ℕ) → i / 2 < m → Dec (i ≡ 2 * (i / 2) + 0) → getD xs i 0 ≡ getD ys i 0
+      go i h (yes q) = cell-same 0 i e h q
+      go i h (no q) = cell-same 1 i e′ h (omega arith)

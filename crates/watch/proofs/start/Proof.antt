@@ -40,7 +40,7 @@ returns c =
     let c3 = c1 .before .before in
     let a = c3 .args in
     let i = c1 .loop in
-    start-holds (a .d) (a .s .now) (i .s) (i .inv .room) (i .inv .blockers) (λ l h. i .inv .done l (omega arith))
+    start-holds (a .d) (a .s .now) (i .s) (i .inv .room) (i .inv .others) (λ l h. i .inv .done l (omega arith))
 
 pub start-spec : {M : Type 1} → statement M
 start-spec =

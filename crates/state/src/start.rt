@@ -36,7 +36,7 @@ fn fill_scratch(d: Sizes, work: &mut [u32])
 
 fn fill_watches(d: Sizes, work: &mut [u32])
     requires { ⌜ Room d (length (now work)) ⌝ }
-    ensures { λ _. ⌜ Filled d (now (work .entry)) (now (work .exit)) 2 (Unlisted d) ⌝ }
+    ensures { λ _. ⌜ Filled d (now (work .entry)) (now (work .exit)) 2 (Unlisted d (now (work .entry))) ⌝ }
 {
     let a = 13 * d.vars;
     let e = 19 * d.vars + 4 * d.room;

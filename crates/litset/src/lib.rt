@@ -1,12 +1,10 @@
 // A set of literals, as IntSet of intmap.rs: in order of first insertion, with no repeats. It stands in a slice of its own: a flag by literal, which
 // is 1 for a member and else 0, then the members.
 ghost use mathlib.Core.Path.{_≡_};
-ghost use mathlib.Core.List.{[]};
 ghost use Prim.Native.Nat.{_+_, _≤_, _<_};
 ghost use lib.ListN.{length, getD};
-ghost use Rattle.model.specs.Final.{insert};
 ghost use Rattle.region.specs.Split.{total};
-ghost use Rattle.litset.specs.View.{shape, view, Rep, Holds, Insertable, Clearing};
+ghost use Rattle.litset.specs.View.{shape, view, inserted, unmarked, emptied, Rep, Holds, Insertable, Clearing};
 use clause::Lit;
 
 // How many literals there are, and how many members there is room for.
@@ -22,7 +20,7 @@ pub struct Head {
 // The empty set, whatever the slice held.
 pub fn start(d: Size, s: &mut [u32]) -> Head
     requires { ⌜ total (shape d) ≤ length (now s) ⌝ }
-    ensures { λ r. ⌜ Holds d r (now (s .exit)) [] ⌝ }
+    ensures { λ r. ⌜ Holds d r (now (s .exit)) (emptied (d .lits) (view d r (now (s .entry)))) ⌝ }
 {
     let n = d.lits;
     for i in 0..n {
@@ -35,7 +33,7 @@ pub fn start(d: Size, s: &mut [u32]) -> Head
 pub fn insert(d: Size, h: Head, s: &mut [u32], l: Lit) -> Head
     requires { ⌜ Rep d h (now s) ⌝ }
     requires { ⌜ Insertable d h (now s) (l .0) ⌝ }
-    ensures { λ r. ⌜ Holds d r (now (s .exit)) (insert (view d h (now (s .entry))) (l .0)) ⌝ }
+    ensures { λ r. ⌜ Holds d r (now (s .exit)) (inserted (view d h (now (s .entry))) (l .0)) ⌝ }
 {
     let at = l.0 as usize;
     if s[at] != 0 {
@@ -50,7 +48,7 @@ pub fn insert(d: Size, h: Head, s: &mut [u32], l: Lit) -> Head
 
 pub fn len(d: Size, h: Head, s: &[u32]) -> usize
     requires { ⌜ Rep d h (now s) ⌝ }
-    ensures { λ r. ⌜ r ≡ length (view d h (now (s .entry))) ⌝ }
+    ensures { λ r. ⌜ r ≡ length (view d h (now (s .entry)) .items) ⌝ }
 {
     h.count
 }
@@ -59,7 +57,7 @@ pub fn len(d: Size, h: Head, s: &[u32]) -> usize
 pub fn at(d: Size, h: Head, s: &[u32], i: usize) -> Lit
     requires { ⌜ Rep d h (now s) ⌝ }
     requires { ⌜ i < h .count ⌝ }
-    ensures { λ r. ⌜ r .0 ≡ getD (view d h (now (s .entry))) i 0 ⌝ }
+    ensures { λ r. ⌜ r .0 ≡ getD (view d h (now (s .entry)) .items) i 0 ⌝ }
 {
     let k = d.lits + i;
     Lit(s[k])
@@ -68,7 +66,7 @@ pub fn at(d: Size, h: Head, s: &[u32], i: usize) -> Lit
 // The members, as a part of the slice.
 pub fn items(d: Size, h: Head, s: &[u32]) -> &[u32]
     requires { ⌜ Rep d h (now s) ⌝ }
-    ensures { λ r. ⌜ now r ≡ view d h (now (s .entry)) ⌝ }
+    ensures { λ r. ⌜ now r ≡ view d h (now (s .entry)) .items ⌝ }
 {
     let from = d.lits;
     let end = from + h.count;
@@ -80,6 +78,7 @@ fn unmark(d: Size, h: Head, s: &mut [u32], i: usize)
     requires { ⌜ Clearing d h i (now s) ⌝ }
     requires { ⌜ i < h .count ⌝ }
     ensures { λ _. ⌜ Clearing d h (i + 1) (now (s .exit)) ⌝ }
+    ensures { λ _. ⌜ view d h (now (s .exit)) ≡ unmarked (view d h (now (s .entry))) i ⌝ }
 {
     let k = d.lits + i;
     let l = wide(s[k]);
@@ -95,7 +94,7 @@ fn wide(x: u32) -> usize
 // The empty set: every flag is 0.
 pub fn clear(d: Size, h: Head, s: &mut [u32]) -> Head
     requires { ⌜ Rep d h (now s) ⌝ }
-    ensures { λ r. ⌜ Holds d r (now (s .exit)) [] ⌝ }
+    ensures { λ r. ⌜ Holds d r (now (s .exit)) (emptied (d .lits) (view d h (now (s .entry)))) ⌝ }
 {
     let n = h.count;
     for i in 0..n {

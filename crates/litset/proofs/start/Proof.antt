@@ -1,19 +1,17 @@
-use Prim.Native.Nat.{ℕ, _-_, _≤_, _<_}
-use mathlib.Core.Path.{_≡_, refl, _∙_}
+use Prim.Native.Nat.{_-_, _≤_}
 use native.Mathlib.Omega.{arith}
-use lib.ListN.{length, getD, length-set}
-use Rattle.litset.specs.Laws.{zeros-more, empty-holds}
+use Rattle.litset.specs.Laws.{Cleared, cleared-start, cleared-more, cleared-holds}
 use Rattle.litset.proofs.start.Statement.{statement}
 use Rattle.litset.proofs.start.Tie as tie
 
 abbrev Inv-loop : tie.InvT-loop
-Inv-loop s₀ n i₀ s i = (i ≤ n) × (length s ≡ length s₀) × ((k : ℕ) → k < i → getD s k 0 ≡ 0)
+Inv-loop s₀ n i₀ s i = (i ≤ n) × Cleared n s₀ s i
 
 abbrev μ-loop : tie.MeasureT-loop
 μ-loop s₀ n i₀ s i = n - i
 
 loop-holds : tie.Need-loop-holds Inv-loop μ-loop
-loop-holds c = (omega arith, refl, λ k h. absurd (omega arith))
+loop-holds c = (omega arith, cleared-start _ _)
 
 mul-s : tie.Need-mul-s Inv-loop μ-loop
 mul-s c = omega arith
@@ -30,16 +28,16 @@ loop-less c = omega arith
 loop-again : tie.Need-loop-again Inv-loop μ-loop
 loop-again c =
     let l = c .before .loop in
-    (omega arith, length-set (l .s) (l .i) 0 ∙ l .inv .1, zeros-more (l .s) (l .i) (omega arith) (l .inv .2))
+    (omega arith, cleared-more _ _ (l .s) (l .i) (omega (arith, l .inv .1 .same)) (omega arith) (l .inv .1))
 
 same-length : tie.Need-same-length Inv-loop μ-loop
-same-length c = c .before .loop .inv .1
+same-length c = c .before .loop .inv .1 .same
 
 returns : tie.Need-returns Inv-loop μ-loop
 returns c =
     let l = c .before .loop in
     let a = c .before .before .args in
-    empty-holds (a .d) (l .s) (rw (l .inv .1) (c .before .before .pre)) (λ k h. l .inv .2 k (omega arith))
+    cleared-holds (a .d) (a .s .now) (l .s) (c .before .before .pre) (l .i) (omega arith) (l .inv .1)
 
 pub start-spec : {M : Type 1} → statement M
 start-spec =

@@ -41,7 +41,7 @@ module _ (d : Size) (h : Head) (w : List ℕ) (r : Room d h (length w)) where
   flags-length : length (flags d w) ≡ d .lits
   flags-length = split-length (shape d) w 0 (omega arith) (r .fits)
 
-  room-length : length (getD (split (shape d) w) 1 []) ≡ d .room
+  pub room-length : length (getD (split (shape d) w) 1 []) ≡ d .room
   room-length = split-length (shape d) w 1 (omega arith) (r .fits)
 
   pub view-length : length (view d h w .items) ≡ h .count
@@ -61,7 +61,7 @@ module _ (d : Size) (h : Head) (w : List ℕ) (r : Room d h (length w)) where
 
 -- ---- insert
 
-same-members : {a a′ b b′ c c′ : List ℕ} → a ≡ a′ → b ≡ b′ → c ≡ c′
+pub same-members : {a a′ b b′ c c′ : List ℕ} → a ≡ a′ → b ≡ b′ → c ≡ c′
     → _≡_ {A = Members} (record { items = a; flag-cells = b; item-cells = c }) (record { items = a′; flag-cells = b′; item-cells = c′ })
 same-members p q r = rw (p, q, r)
 

@@ -1,3 +1,4 @@
 pub mod Mem
 pub mod View
 pub mod Laws
+pub mod Items

@@ -4,6 +4,7 @@ use mathlib.Core.Path.{_≡_}
 use mathlib.Core.Bool.{Bool, true, false}
 use mathlib.Core.List.{List, [], _∷_}
 use lib.ListN.{length, getD, set, take, drop, replicate}
+use lib.Seq.{sets}
 use Rattle.model.specs.Final.{mem, insert}
 use Rattle.region.specs.Split.{split, total}
 use Rattle.litset.specs.declared.Size.{Size}
@@ -27,6 +28,15 @@ inserted s l =
       flag-cells = new-cell (s .items) l (s .flag-cells) l 1;
       item-cells = new-cell (s .items) l (s .item-cells) (length (s .items)) l;
     }
+
+-- the flags with those of the literals set
+unfoldable pub flagged : List ℕ → List ℕ → List ℕ
+flagged flags [] = flags
+flagged flags (l ∷ ls) = flagged (set flags l 1) ls
+
+-- the set with the members c: their flags are set, and they stand from the first cell on
+abbrev pub with-items : Members → List ℕ → Members
+with-items s c = record { items = c; flag-cells = flagged (s .flag-cells) c; item-cells = sets (s .item-cells) 0 c }
 
 -- the flag of member i is taken back
 abbrev pub unmarked : Members → ℕ → Members

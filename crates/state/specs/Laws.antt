@@ -17,6 +17,7 @@ use Rattle.store.specs.View as sv
 use Rattle.store.specs.View.{Clauses}
 use Rattle.store.specs.declared.StoreHead.{StoreHead}
 use Rattle.litset.specs.View as lv
+use Rattle.litset.specs.View.{Members}
 use Rattle.litset.specs.declared.Head.{Head}
 use Rattle.state.specs.declared.Sizes.{Sizes}
 use Rattle.state.specs.declared.Header.{Header}
@@ -87,10 +88,10 @@ module _ (d : Sizes) (h : Header) (w w′ ys : List ℕ) (r : Rep d h w) (same :
       (record { trail = r .blocks .trail; scratch = r .blocks .scratch; watch = r .blocks .watch; store = k .rep; final = r .blocks .final })
       (ap (λ (x : Clauses). with-clauses (whole d h w) x) (k .view))
 
-  pub final-back : (v : Head) {s : List ℕ} → split (shape d) w′ ≡ set (split (shape d) w) 4 ys → lv.Holds (final-size d) v ys s
+  pub final-back : (v : Head) {s : Members} → split (shape d) w′ ≡ set (split (shape d) w) 4 ys → lv.Holds (final-size d) v ys s
       → Holds d (with-final-head h v) w′ (with-final (whole d h w) s)
   unfolding whole
   final-back v e k =
       held (with-final-head h v) 4 _ e
       (record { trail = r .blocks .trail; scratch = r .blocks .scratch; watch = r .blocks .watch; store = r .blocks .store; final = k .rep })
-      (ap (λ (x : List ℕ). with-final (whole d h w) x) (k .view))
+      (ap (λ (x : Members). with-final (whole d h w) x) (k .view))

@@ -11,7 +11,9 @@ use Rattle.model.specs.Final.{mem}
 use Rattle.scratch.specs.View as xv
 use Rattle.scratch.specs.View.{Scratch}
 use Rattle.litset.specs.View as lv
+use Rattle.litset.specs.View.{Members, with-items}
 use Rattle.litset.specs.Laws.{view-length}
+use Rattle.litset.specs.Items.{with-items-same}
 use Rattle.litset.specs.declared.Head.{Head}
 use Rattle.litset.specs.declared.Size.{Size}
 use Rattle.state.specs.declared.Sizes.{Sizes}
@@ -26,14 +28,14 @@ members n = record { count = n }
 -- l is a literal, and the final clause has room for it
 pub record Insertable (d : Sizes) (h : Header) (x : Whole) (l : ℕ) : Type 0 where
   pub low : l < 2 * d .vars
-  pub room : mem l (x .final) ≡ false → h .finals .count ≤ d .vars
+  pub room : mem l (x .final .items) ≡ false → h .finals .count ≤ d .vars
 
 -- neither is in the definition's state
 module _ (h : Header) (x : Whole) where
   pub state-scratch : (s : Scratch) → state-of h (with-scratch x s) ≡ state-of h x
   state-scratch s = refl
 
-  pub state-final : (t : Head) (s : List ℕ) → state-of (with-final-head h t) (with-final x s) ≡ state-of h x
+  pub state-final : (t : Head) (s : Members) → state-of (with-final-head h t) (with-final x s) ≡ state-of h x
   state-final t s = refl
 
 -- how long the lists are
@@ -78,9 +80,14 @@ module _ {d : Sizes} {h : Header} {w : List ℕ} (r : Rep d h w) where
 -- the final clause's block, as it is lent from a to e
 module _ {d : Sizes} {h : Header} {w : List ℕ} (r : Rep d h w) where
   -- the head counts the literals
-  pub final-counted : length (whole d h w .final) ≡ h .finals .count
+  pub final-counted : length (whole d h w .final .items) ≡ h .finals .count
   unfolding whole
   final-counted = view-length (final-size d) (h .finals) (getD (split (shape d) w) 4 []) (r .blocks .final .room)
+
+  -- its cells follow from them
+  pub final-same : with-items (whole d h w .final) (whole d h w .final .items) ≡ whole d h w .final
+  unfolding whole
+  final-same = with-items-same (final-size d) (h .finals) (getD (split (shape d) w) 4 []) (r .blocks .final)
 
   pub final-view : {z : Size} {p : List ℕ} → z ≡ final-size d → p ≡ getD (split (shape d) w) 4 [] → lv.view z (h .finals) p ≡ whole d h w .final
   unfolding whole
@@ -93,21 +100,21 @@ module _ {d : Sizes} {h : Header} {w : List ℕ} (r : Rep d h w) where
   final-insertable l e f i =
       record {
         low = rw e (i .low);
-        room = λ q. let g : mem l (whole d h w .final) ≡ false = rw (final-view e f) at q in rw e (omega (arith, i .room g));
+        room = λ q. let g : mem l (whole d h w .final .items) ≡ false = rw (final-view e f) at q in rw e (omega (arith, i .room g));
       }
 
   module _ (a b : ℕ) (ha : a ≡ base 4 (shape d)) (hb : b ≡ base 4 (shape d) + getD (shape d) 4 0) where
     pub final-lent : take (b - a) (drop a w) ≡ getD (split (shape d) w) 4 []
     final-lent = lent d w 4 a b (omega arith) ha hb
 
-    -- it came back as ys, with f done to the list
-    pub final-left : {z : Size} (f : List ℕ → List ℕ) (v : Head) (ys : List ℕ) → z ≡ final-size d → length ys ≡ length (take (b - a) (drop a w))
-        → lv.Holds z v ys (f (lv.view z (h .finals) (take (b - a) (drop a w))))
-        → Holds d (with-final-head h v) (take a w ++ (ys ++ drop (b - a) (drop a w))) (with-final (whole d h w) (f (whole d h w .final)))
-        × (with-final-head h v ≡ with-final-head h (members (length (f (whole d h w .final)))))
+    -- it came back as ys, with f done to the set
+    pub final-left : {z : Size} (f : Size → Members → Members) (v : Head) (ys : List ℕ) → z ≡ final-size d → length ys ≡ length (take (b - a) (drop a w))
+        → lv.Holds z v ys (f z (lv.view z (h .finals) (take (b - a) (drop a w))))
+        → Holds d (with-final-head h v) (take a w ++ (ys ++ drop (b - a) (drop a w))) (with-final (whole d h w) (f (final-size d) (whole d h w .final)))
+        × (with-final-head h v ≡ with-final-head h (members (length (f (final-size d) (whole d h w .final) .items))))
     final-left f v ys e l k =
         let fits : base 4 (shape d) + getD (shape d) 4 0 ≤ length w = omega (arith, r .room .fits) in
-        let k′ : lv.Holds (final-size d) v ys (f (whole d h w .final)) = rw (final-view e final-lent, e) at k in (
+        let k′ : lv.Holds (final-size d) v ys (f (final-size d) (whole d h w .final)) = rw (final-view e final-lent, e) at k in (
           final-back d h w _ ys r (came-back (used d) w ys a b (omega arith) (omega arith) (r .room .fits) l) v (back d w 4 a b (omega arith) ha hb ys fits (r .room) l) k′,
-          ap (λ (n : ℕ). with-final-head h (members n)) (sym (view-length (final-size d) v ys (k′ .rep .room)) ∙ ap length (k′ .view)),
+          ap (λ (n : ℕ). with-final-head h (members n)) (sym (view-length (final-size d) v ys (k′ .rep .room)) ∙ ap (λ (m : Members). length (m .items)) (k′ .view)),
         )

@@ -31,7 +31,7 @@ state-at g h w = state-of h (whole (g .sizes) h w)
 -- nothing is half done: no mark is set, no literal is pushed, no final clause is under way, and no node of a clause to come is listed
 pub record Idle (n : ℕ) (x : Whole) : Type 0 where
   pub marks : x .scratch .marks ≡ replicate n 0
-  pub final : x .final ≡ []
+  pub final : x .final .items ≡ []
   pub pushed : x .clauses .pushed ≡ []
   pub nodes : Under (2 * length (x .clauses .clauses)) (x .watches .lists)
 

@@ -19,6 +19,7 @@ use Rattle.store.specs.View as sv
 use Rattle.store.specs.View.{Clauses}
 use Rattle.store.specs.declared.StoreSize.{StoreSize}
 use Rattle.litset.specs.View as lv
+use Rattle.litset.specs.View.{Members}
 use Rattle.litset.specs.declared.Size.{Size}
 use Rattle.state.specs.declared.Sizes.{Sizes}
 use Rattle.state.specs.declared.Header.{Header}
@@ -29,7 +30,7 @@ pub record Whole : Type 0 where
   pub scratch : Scratch
   pub watches : Watches
   pub clauses : Clauses
-  pub final : List ℕ
+  pub final : Members
   pub behind : List ℕ
 
 abbrev pub with-assignment : Whole → Assignment → Whole
@@ -44,7 +45,7 @@ with-watches x a = record { assignment = x .assignment; scratch = x .scratch; wa
 abbrev pub with-clauses : Whole → Clauses → Whole
 with-clauses x a = record { assignment = x .assignment; scratch = x .scratch; watches = x .watches; clauses = a; final = x .final; behind = x .behind }
 
-abbrev pub with-final : Whole → List ℕ → Whole
+abbrev pub with-final : Whole → Members → Whole
 with-final x a = record { assignment = x .assignment; scratch = x .scratch; watches = x .watches; clauses = x .clauses; final = a; behind = x .behind }
 
 -- the definition's state

@@ -6,6 +6,7 @@ ghost use lib.ListN.{length, getD};
 ghost use Rattle.region.specs.Split.{split, base};
 ghost use Rattle.model.specs.Final.{insert};
 ghost use Rattle.scratch.specs.View.{marked, buffered, stacked, noted};
+ghost use Rattle.litset.specs.View.{inserted, emptied};
 ghost use Rattle.state.specs.View.{Room, Rep, Holds, shape, final-size, whole, with-scratch, with-final};
 ghost use Rattle.state.specs.Laws.{with-final-head};
 ghost use Rattle.state.specs.MarksLaws.{members, Insertable};
@@ -146,8 +147,8 @@ fn final_block(d: Sizes, work: &[u32]) -> &[u32]
 pub fn final_insert(d: Sizes, h: Header, work: &mut [u32], l: Lit) -> Header
     requires { ⌜ Rep d h (now work) ⌝ }
     requires { ⌜ Insertable d h (whole d h (now work)) (l .0) ⌝ }
-    ensures { λ r. ⌜ Holds d r (now (work .exit)) (with-final (whole d h (now (work .entry))) (insert (whole d h (now (work .entry)) .final) (l .0))) ⌝ }
-    ensures { λ r. ⌜ r ≡ with-final-head h (members (length (insert (whole d h (now (work .entry)) .final) (l .0)))) ⌝ }
+    ensures { λ r. ⌜ Holds d r (now (work .exit)) (with-final (whole d h (now (work .entry))) (inserted (whole d h (now (work .entry)) .final) (l .0))) ⌝ }
+    ensures { λ r. ⌜ r ≡ with-final-head h (members (length (insert (whole d h (now (work .entry)) .final .items) (l .0)))) ⌝ }
 {
     let a = final_begin(d);
     let e = final_end(d);
@@ -160,7 +161,7 @@ pub fn final_insert(d: Sizes, h: Header, work: &mut [u32], l: Lit) -> Header
 // The final clause with no literals.
 pub fn final_clear(d: Sizes, h: Header, work: &mut [u32]) -> Header
     requires { ⌜ Rep d h (now work) ⌝ }
-    ensures { λ r. ⌜ Holds d r (now (work .exit)) (with-final (whole d h (now (work .entry))) []) ⌝ }
+    ensures { λ r. ⌜ Holds d r (now (work .exit)) (with-final (whole d h (now (work .entry))) (emptied (2 * d .vars) (whole d h (now (work .entry)) .final))) ⌝ }
     ensures { λ r. ⌜ r ≡ with-final-head h (members 0) ⌝ }
 {
     let a = final_begin(d);
@@ -173,7 +174,7 @@ pub fn final_clear(d: Sizes, h: Header, work: &mut [u32]) -> Header
 
 pub fn final_len(d: Sizes, h: Header, work: &[u32]) -> usize
     requires { ⌜ Rep d h (now work) ⌝ }
-    ensures { λ r. ⌜ r ≡ length (whole d h (now (work .entry)) .final) ⌝ }
+    ensures { λ r. ⌜ r ≡ length (whole d h (now (work .entry)) .final .items) ⌝ }
 {
     h.finals.count
 }
@@ -181,7 +182,7 @@ pub fn final_len(d: Sizes, h: Header, work: &[u32]) -> usize
 // The literals of the final clause, as a part of the slice.
 pub fn final_items(d: Sizes, h: Header, work: &[u32]) -> &[u32]
     requires { ⌜ Rep d h (now work) ⌝ }
-    ensures { λ r. ⌜ now r ≡ whole d h (now (work .entry)) .final ⌝ }
+    ensures { λ r. ⌜ now r ≡ whole d h (now (work .entry)) .final .items ⌝ }
 {
     let f = h.finals;
     litset::items(final_size(d), f, final_block(d, work))

@@ -1,11 +1,8 @@
 // The start and the end of a run: every block filled, and every cell cleared.
 ghost use mathlib.Core.Path.{_≡_};
-ghost use mathlib.Core.List.{[]};
-ghost use Prim.Native.Nat.{_*_};
-ghost use lib.ListN.{length, drop, replicate};
-ghost use Rattle.litset.specs.View as lv;
-ghost use Rattle.state.specs.View.{Room, used, final-size};
-ghost use Rattle.state.specs.StartLaws.{Filled, Unassigned, Unmarked, Unlisted, Unstored, Started};
+ghost use lib.ListN.{length, replicate};
+ghost use Rattle.state.specs.View.{Room};
+ghost use Rattle.state.specs.StartLaws.{Filled, Unassigned, Unmarked, Unlisted, Unstored, Unexplained, Started};
 use super::Header;
 use super::Sizes;
 use litset::Head;
@@ -19,7 +16,7 @@ use watch::Lists;
 
 fn fill_trail(d: Sizes, work: &mut [u32]) -> TrailHead
     requires { ⌜ Room d (length (now work)) ⌝ }
-    ensures { λ r. ⌜ Filled d (now (work .entry)) (now (work .exit)) 0 (Unassigned d (now (work .entry)) r) ⌝ }
+    ensures { λ r. ⌜ Filled d (now (work .entry)) (now (work .exit)) 0 (Unassigned d r) ⌝ }
 {
     let e = 8 * d.vars;
     trail::fill(TrailSize { vars: d.vars }, &mut work[0..e])
@@ -36,7 +33,7 @@ fn fill_scratch(d: Sizes, work: &mut [u32])
 
 fn fill_watches(d: Sizes, work: &mut [u32])
     requires { ⌜ Room d (length (now work)) ⌝ }
-    ensures { λ _. ⌜ Filled d (now (work .entry)) (now (work .exit)) 2 (Unlisted d (now (work .entry))) ⌝ }
+    ensures { λ _. ⌜ Filled d (now (work .entry)) (now (work .exit)) 2 (Unlisted d) ⌝ }
 {
     let a = 13 * d.vars;
     let e = 19 * d.vars + 4 * d.room;
@@ -47,7 +44,7 @@ fn fill_watches(d: Sizes, work: &mut [u32])
 
 fn fill_store(d: Sizes, work: &mut [u32]) -> StoreHead
     requires { ⌜ Room d (length (now work)) ⌝ }
-    ensures { λ r. ⌜ Filled d (now (work .entry)) (now (work .exit)) 3 (Unstored d (now (work .entry)) r) ⌝ }
+    ensures { λ r. ⌜ Filled d (now (work .entry)) (now (work .exit)) 3 (Unstored d r) ⌝ }
 {
     let a = 19 * d.vars + 4 * d.room;
     let e = 19 * d.vars + 5 * d.room + 1 + d.lit_room;
@@ -62,7 +59,7 @@ fn fill_store(d: Sizes, work: &mut [u32]) -> StoreHead
 
 fn fill_final(d: Sizes, work: &mut [u32]) -> Head
     requires { ⌜ Room d (length (now work)) ⌝ }
-    ensures { λ r. ⌜ Filled d (now (work .entry)) (now (work .exit)) 4 (λ b. lv.Holds (final-size d) r b []) ⌝ }
+    ensures { λ r. ⌜ Filled d (now (work .entry)) (now (work .exit)) 4 (Unexplained d r) ⌝ }
 {
     let a = 19 * d.vars + 5 * d.room + 1 + d.lit_room;
     let e = 22 * d.vars + 5 * d.room + 2 + d.lit_room;
@@ -71,11 +68,10 @@ fn fill_final(d: Sizes, work: &mut [u32]) -> Head
     litset::start(Size { lits: n, room: m }, &mut work[a..e])
 }
 
-// No clause and nothing assigned, whatever stood in the slice; what stands behind the blocks stays.
+// No clause and nothing assigned, whatever stood in the slice; the cells that nothing is held in, and those behind the blocks, stay.
 pub fn start(d: Sizes, work: &mut [u32]) -> Header
     requires { ⌜ Room d (length (now work)) ⌝ }
     ensures { λ r. ⌜ Started d r (now (work .entry)) (now (work .exit)) ⌝ }
-    ensures { λ _. ⌜ drop (used d) (now (work .exit)) ≡ drop (used d) (now (work .entry)) ⌝ }
 {
     let t = fill_trail(d, work);
     fill_scratch(d, work);

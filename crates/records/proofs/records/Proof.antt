@@ -25,7 +25,7 @@ loop-holds : tie.Need-loop-holds Inv-loop μ-loop
 loop-holds c =
     let a = c .before .before .before .before .before .before .before .before .before .before .before .before .args in
     let p = c .before .before .before .before .before .before .before .before .before .before .before .before .pre in (
-      recording-start (a .g) (p .limited) _ _ _ _ _ (p .counted) (c .before .before .initial .kept .0) (c .before .before .before .before .before .before .start .ensures .0) (c .before .before .initial .ensures) (a .script .now)
+      recording-start (a .g) (p .limited) _ _ _ _ _ (p .counted) (c .before .before .initial .kept .0) (c .before .before .before .before .before .before .start .ensures) (c .before .before .initial .ensures) (a .script .now)
           (a .out .now) (p .readable) (p .fits),
       (refl, refl),
     )

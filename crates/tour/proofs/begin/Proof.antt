@@ -10,7 +10,7 @@ same-length : tie.Need-same-length
 same-length c = search needs
 
 returns : tie.Need-returns
-returns c = (live-started (c .before .before .start .ensures .0), c .before .before .start .ensures .0)
+returns c = (live-started (c .before .before .start .ensures), c .before .before .start .ensures)
 
 pub begin-spec : {M : Type 1} → statement M
 begin-spec = tie.close (tie.spec start-requires same-length returns)

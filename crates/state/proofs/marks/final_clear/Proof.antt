@@ -1,4 +1,4 @@
-use mathlib.Core.List.{[]}
+use Rattle.litset.specs.View.{emptied}
 use Rattle.state.specs.MarksLaws.{final-rep, final-lent, final-left}
 use borrow.Author.Needs.{needs}
 use Rattle.state.proofs.marks.final_clear.Statement.{statement}
@@ -39,7 +39,7 @@ returns : tie.Need-returns
 returns c =
     let s = c .before .before .before .before .before .before .before .before .before in
     let u = c .before .before .clear in
-    final-left (s .pre) (c .before .before .before .before .before .before .before .final-begin .result) (c .before .before .before .before .before .before .final-end .result) (c .before .before .before .before .before .before .before .final-begin .ensures) (c .before .before .before .before .before .before .final-end .ensures) (λ x. []) (u .result) (u .last .1 .1 .0) (c .before .before .before .before .final-size .ensures) (u .kept .1 .1 .0) (u .ensures)
+    final-left (s .pre) (c .before .before .before .before .before .before .before .final-begin .result) (c .before .before .before .before .before .before .final-end .result) (c .before .before .before .before .before .before .before .final-begin .ensures) (c .before .before .before .before .before .before .final-end .ensures) (λ z x. emptied (z .lits) x) (u .result) (u .last .1 .1 .0) (c .before .before .before .before .final-size .ensures) (u .kept .1 .1 .0) (u .ensures)
 
 pub final-clear-spec : {M : Type 1} → statement M
 final-clear-spec =

@@ -1,4 +1,4 @@
-use Rattle.model.specs.Final.{insert}
+use Rattle.litset.specs.View.{inserted}
 use Rattle.state.specs.MarksLaws.{final-rep, final-insertable, final-lent, final-left}
 use borrow.Author.Needs.{needs}
 use Rattle.state.proofs.marks.final_insert.Statement.{statement}
@@ -39,7 +39,7 @@ returns : tie.Need-returns
 returns c =
     let s = c .before .before .before .before .before .before .before .before .before in
     let u = c .before .before .insert in
-    final-left (s .pre .0) (c .before .before .before .before .before .before .before .final-begin .result) (c .before .before .before .before .before .before .final-end .result) (c .before .before .before .before .before .before .before .final-begin .ensures) (c .before .before .before .before .before .before .final-end .ensures) (λ x. insert x (s .args .l .0)) (u .result) (u .last .1 .1 .0) (c .before .before .before .before .final-size .ensures) (u .kept .1 .1 .0) (u .ensures)
+    final-left (s .pre .0) (c .before .before .before .before .before .before .before .final-begin .result) (c .before .before .before .before .before .before .final-end .result) (c .before .before .before .before .before .before .before .final-begin .ensures) (c .before .before .before .before .before .before .final-end .ensures) (λ _ x. inserted x (s .args .l .0)) (u .result) (u .last .1 .1 .0) (c .before .before .before .before .final-size .ensures) (u .kept .1 .1 .0) (u .ensures)
 
 pub final-insert-spec : {M : Type 1} → statement M
 final-insert-spec =

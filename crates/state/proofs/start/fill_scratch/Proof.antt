@@ -1,6 +1,6 @@
 use native.Mathlib.Omega.{arith}
 use Prim.Native.Nat.{_*_}
-use Rattle.state.specs.StartLaws.{Unmarked, filled, unmarked-is}
+use Rattle.state.specs.StartLaws.{Unmarked, filled}
 use borrow.Author.Needs.{needs}
 use Rattle.state.proofs.start.fill_scratch.Statement.{statement}
 use Rattle.state.proofs.start.fill_scratch.Tie as tie
@@ -35,7 +35,7 @@ returns c =
     let p = c .before .before .before .before .before .before .before .pre in
     let u = c .before .before .start in
     let n = a .d .vars in
-    filled (a .d) (a .work .now) p 1 (8 * n) (13 * n) (omega arith) (omega arith) (omega arith) (omega (arith, p .fits)) (Unmarked (a .d)) (u .last .1 .0) (u .kept .1 .0) (unmarked-is (a .d) _ _ (u .ensures))
+    filled (a .d) (a .work .now) p 1 (8 * n) (13 * n) (omega arith) (omega arith) (omega arith) (omega (arith, p .fits)) (Unmarked (a .d)) (u .last .1 .0) (u .kept .1 .0) (u .ensures)
 
 pub fill-scratch-spec : {M : Type 1} → statement M
 fill-scratch-spec =

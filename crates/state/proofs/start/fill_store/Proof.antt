@@ -1,7 +1,6 @@
 use native.Mathlib.Omega.{arith}
 use Prim.Native.Nat.{_+_, _*_}
-use Rattle.state.specs.Laws.{lent}
-use Rattle.state.specs.StartLaws.{Unstored, filled, unstored-is}
+use Rattle.state.specs.StartLaws.{Unstored, filled}
 use borrow.Author.Needs.{needs}
 use Rattle.state.proofs.start.fill_store.Statement.{statement}
 use Rattle.state.proofs.start.fill_store.Tie as tie
@@ -54,7 +53,7 @@ returns c =
     let p = c .before .before .before .before .before .before .before .before .before .before .pre in
     let u = c .before .before .start in
     let n = a .d .vars in
-    filled (a .d) (a .work .now) p 3 (19 * n + 4 * a .d .room) (19 * n + 5 * a .d .room + 1 + a .d .«lit_room») (omega arith) (omega arith) (omega arith) (omega (arith, p .fits)) (Unstored (a .d) (a .work .now) _) (u .last .1 .0) (u .kept .1 .0) (unstored-is (a .d) (a .work .now) _ _ (u .last .1 .0) (lent (a .d) (a .work .now) 3 (19 * n + 4 * a .d .room) (19 * n + 5 * a .d .room + 1 + a .d .«lit_room») (omega arith) (omega arith) (omega arith)) (u .ensures))
+    filled (a .d) (a .work .now) p 3 (19 * n + 4 * a .d .room) (19 * n + 5 * a .d .room + 1 + a .d .«lit_room») (omega arith) (omega arith) (omega arith) (omega (arith, p .fits)) (Unstored (a .d) (u .result)) (u .last .1 .0) (u .kept .1 .0) (u .ensures)
 
 pub fill-store-spec : {M : Type 1} → statement M
 fill-store-spec =

@@ -1,6 +1,6 @@
 use native.Mathlib.Omega.{arith}
 use Prim.Native.Nat.{_*_}
-use Rattle.state.specs.StartLaws.{Unassigned, filled, unassigned-is}
+use Rattle.state.specs.StartLaws.{Unassigned, filled}
 use borrow.Author.Needs.{needs}
 use Rattle.state.proofs.start.fill_trail.Statement.{statement}
 use Rattle.state.proofs.start.fill_trail.Tie as tie
@@ -29,7 +29,7 @@ returns c =
     let p = c .before .before .before .before .before .before .pre in
     let u = c .before .before .fill in
     let n = a .d .vars in
-    filled (a .d) (a .work .now) p 0 (0) (8 * n) (omega arith) (omega arith) (omega arith) (omega (arith, p .fits)) (Unassigned (a .d) (a .work .now) _) (u .last .1 .0) (u .kept .1 .0) (unassigned-is (a .d) (a .work .now) _ (u .last .1 .0) (u .ensures))
+    filled (a .d) (a .work .now) p 0 0 (8 * n) (omega arith) (omega arith) (omega arith) (omega (arith, p .fits)) (Unassigned (a .d) (u .result)) (u .last .1 .0) (u .kept .1 .0) (u .ensures)
 
 pub fill-trail-spec : {M : Type 1} → statement M
 fill-trail-spec =

@@ -1,7 +1,6 @@
 use native.Mathlib.Omega.{arith}
 use Prim.Native.Nat.{_+_, _*_}
-use Rattle.state.specs.Laws.{lent}
-use Rattle.state.specs.StartLaws.{Unlisted, filled, unlisted-is}
+use Rattle.state.specs.StartLaws.{Unlisted, filled}
 use borrow.Author.Needs.{needs}
 use Rattle.state.proofs.start.fill_watches.Statement.{statement}
 use Rattle.state.proofs.start.fill_watches.Tie as tie
@@ -48,7 +47,7 @@ returns c =
     let p = c .before .before .before .before .before .before .before .before .before .before .pre in
     let u = c .before .before .start in
     let n = a .d .vars in
-    filled (a .d) (a .work .now) p 2 (13 * n) (19 * n + 4 * a .d .room) (omega arith) (omega arith) (omega arith) (omega (arith, p .fits)) (Unlisted (a .d) (a .work .now)) (u .last .1 .0) (u .kept .1 .0) (unlisted-is (a .d) (a .work .now) _ _ (lent (a .d) (a .work .now) 2 (13 * n) (19 * n + 4 * a .d .room) (omega arith) (omega arith) (omega arith)) (u .ensures))
+    filled (a .d) (a .work .now) p 2 (13 * n) (19 * n + 4 * a .d .room) (omega arith) (omega arith) (omega arith) (omega (arith, p .fits)) (Unlisted (a .d)) (u .last .1 .0) (u .kept .1 .0) (u .ensures)
 
 pub fill-watches-spec : {M : Type 1} → statement M
 fill-watches-spec =

@@ -1,4 +1,4 @@
-use Rattle.state.specs.StartLaws.{started, started-behind}
+use Rattle.state.specs.StartLaws.{started}
 use borrow.Author.Needs.{needs}
 use Rattle.state.proofs.start.start.Statement.{statement}
 use Rattle.state.proofs.start.start.Tie as tie
@@ -29,7 +29,7 @@ returns c =
     let l = c .before .before .before .before .before .before .before .before .before .before .fill-watches .ensures in
     let k = c .before .before .before .before .before .before .fill-store .ensures in
     let f = c .before .before .fill-final .ensures in
-    (started (s .args .d) (s .args .work .now) _ _ _ _ _ _ _ _ (s .pre) t x l k f, started-behind t x l k f)
+    started (s .args .d) (s .args .work .now) _ _ _ _ _ _ _ _ (s .pre) t x l k f
 
 pub start-spec : {M : Type 1} → statement M
 start-spec =

@@ -24,6 +24,8 @@ use Rattle.learning.specs.Parts.{upper}
 use Rattle.learning.specs.Blame.{blame-cases}
 use Rattle.scratch.specs.View.{marked}
 use Rattle.store.specs.View.{clause-of}
+use Rattle.litset.specs.View.{Members, inserted, with-items}
+use Rattle.litset.specs.Items.{inserted-with}
 use Rattle.trail.specs.View.{LitsOf}
 use Rattle.watch.specs.Meaning.{as-watches}
 use Rattle.state.specs.declared.Sizes.{Sizes}
@@ -31,14 +33,14 @@ use Rattle.state.specs.declared.Header.{Header}
 use Rattle.state.specs.declared.Config.{Config}
 use Rattle.state.specs.View.{Whole, whole, Rep, Holds, with-scratch, with-final}
 use Rattle.state.specs.Laws.{with-final-head}
-use Rattle.state.specs.MarksLaws.{members, Insertable, final-counted}
+use Rattle.state.specs.MarksLaws.{members, Insertable, final-counted, final-same}
 use Rattle.state.specs.AssignmentLaws.{assigned-held}
 use Rattle.state.specs.Still.{config-of, state-at}
 use Rattle.decide.specs.Marking.{remarked, mark-high, mark-none}
 
 -- the marks and the final clause under way
 abbrev pub traced : Whole → List ℕ → List ℕ → Whole
-traced x seen out = with-final (remarked x seen) out
+traced x seen out = with-final (remarked x seen) (with-items (x .final) out)
 
 abbrev pub store-of : Whole → Store
 store-of x = record { clauses = x .clauses .clauses; watches = as-watches (x .watches) }
@@ -55,8 +57,8 @@ passed l x =
       | false ↦ x
       | true ↦
           elim (eqb (reason-lit (vars-of x) l) no-reason) [
-            | true ↦ traced x (set (x .scratch .marks) (var l) 0) (insert (x .final) (neg l))
-            | false ↦ traced x (set (mark (vars-of x) (drop 1 (clause-of (x .clauses) (reason-lit (vars-of x) l))) (x .scratch .marks)) (var l) 0) (x .final)
+            | true ↦ with-final (remarked x (set (x .scratch .marks) (var l) 0)) (inserted (x .final) (neg l))
+            | false ↦ remarked x (set (mark (vars-of x) (drop 1 (clause-of (x .clauses) (reason-lit (vars-of x) l))) (x .scratch .marks)) (var l) 0)
           ]
     ]
 
@@ -66,19 +68,19 @@ module _ (l : ℕ) (x : Whole) where
   passed-unseen s = rw (s, passed)
 
   pub passed-decision : is-seen (x .scratch .marks) l ≡ true → reason-lit (vars-of x) l ≡ no-reason
-      → passed l x ≡ traced x (set (x .scratch .marks) (var l) 0) (insert (x .final) (neg l))
+      → passed l x ≡ with-final (remarked x (set (x .scratch .marks) (var l) 0)) (inserted (x .final) (neg l))
   unfolding passed
   passed-decision s e = rw (s, eq-eqb (reason-lit (vars-of x) l) no-reason e, passed)
 
   pub passed-implied : is-seen (x .scratch .marks) l ≡ true → reason-lit (vars-of x) l ≢ no-reason
-      → passed l x ≡ traced x (set (mark (vars-of x) (drop 1 (clause-of (x .clauses) (reason-lit (vars-of x) l))) (x .scratch .marks)) (var l) 0) (x .final)
+      → passed l x ≡ remarked x (set (mark (vars-of x) (drop 1 (clause-of (x .clauses) (reason-lit (vars-of x) l))) (x .scratch .marks)) (var l) 0)
   unfolding passed
   passed-implied s ne = rw (s, ne-eqb (reason-lit (vars-of x) l) no-reason ne, passed)
 
 -- what it asks: the final clause has room, and the reason is a clause of literals
 pub record Passable (d : Sizes) (x : Whole) (l : ℕ) : Type 0 where
   pub low : l < 2 * d .vars
-  pub room : is-seen (x .scratch .marks) l ≡ true → reason-lit (vars-of x) l ≡ no-reason → mem (neg l) (x .final) ≡ false → length (x .final) ≤ d .vars
+  pub room : is-seen (x .scratch .marks) l ≡ true → reason-lit (vars-of x) l ≡ no-reason → mem (neg l) (x .final .items) ≡ false → length (x .final .items) ≤ d .vars
   pub stored : reason-lit (vars-of x) l ≢ no-reason → reason-lit (vars-of x) l < length (x .clauses .clauses)
   pub lits : reason-lit (vars-of x) l ≢ no-reason → LitsOf (d .vars) (clause-of (x .clauses) (reason-lit (vars-of x) l))
   pub some : reason-lit (vars-of x) l ≢ no-reason → 1 ≤ length (clause-of (x .clauses) (reason-lit (vars-of x) l))
@@ -86,7 +88,7 @@ pub record Passable (d : Sizes) (x : Whole) (l : ℕ) : Type 0 where
 -- what it leaves
 pub record Passed (d : Sizes) (h : Header) (x : Whole) (l : ℕ) (r : Header) (w : List ℕ) : Type 0 where
   pub holds : Holds d r w (passed l x)
-  pub head : r ≡ with-final-head h (members (length (passed l x .final)))
+  pub head : r ≡ with-final-head h (members (length (passed l x .final .items)))
 
 -- ---- `blame` takes the same step
 
@@ -128,6 +130,25 @@ blame-longer st vs (l ∷ u) m out =
     (λ s. blame-longer st vs u m out)
     (λ s e. omega (arith, blame-longer st vs u (set m (var l) 0) (insert out (neg l)), insert-longer out (neg l)))
     (λ s e. blame-longer st vs u (set (mark vs (reason-rest st vs l) m) (var l) 0) out)
+
+-- and begins as it did
+pub record Begins (p : ℕ) (c : List ℕ) : Type 0 where
+  pub rest : List ℕ
+  pub is : c ≡ p ∷ rest
+
+pub blame-begins : (st : Store) (vs : VarState) (u m : List ℕ) (p : ℕ) (out : List ℕ) → Begins p out → Begins p (blame st vs u m out)
+unfolding blame
+blame-begins st vs [] m p out b = b
+blame-begins st vs (l ∷ u) m p out b =
+    blame-cases (Begins p) st vs l u m out
+    (λ s. blame-begins st vs u m p out b)
+    (λ s e. blame-begins st vs u (set m (var l) 0) p (insert out (neg l)) (insert-begins (neg l)))
+    (λ s e. blame-begins st vs u (set (mark vs (reason-rest st vs l) m) (var l) 0) p out b)
+  where
+    insert-begins : (k : ℕ) → Begins p (insert out k)
+    insert-begins k = split (on? (mem k out))
+        (λ e. rw (insert-old out k e) b)
+        (λ e. record { rest = b .rest ++ (k ∷ []); is = insert-new out k e ∙ ap (λ o. o ++ (k ∷ [])) (b .is) })
 
 -- ---- what is still to be walked, newest first
 
@@ -248,7 +269,7 @@ pub record Blaming (d : Sizes) (h : Header) (x : Whole) (start i : ℕ) (r : Hea
   pub out : List ℕ
   pub holds : Holds d r w (traced x seen out)
   pub head : r ≡ with-final-head h (members (length out))
-  pub rest : blame (store-of x) (vars-of x) (left (vars-of x) start i) seen out ≡ blame (store-of x) (vars-of x) (upper (vars-of x) start) (x .scratch .marks) (x .final)
+  pub rest : blame (store-of x) (vars-of x) (left (vars-of x) start i) seen out ≡ blame (store-of x) (vars-of x) (upper (vars-of x) start) (x .scratch .marks) (x .final .items)
   pub cells : Cells seen
   pub ahead : Ahead (vars-of x) start (x .scratch .marks) i seen
   pub least : start ≤ i
@@ -260,17 +281,17 @@ pub record Blamable (g : Config) (h : Header) (w : List ℕ) (start : ℕ) : Typ
   pub deep : 0 < decision-level (vars-of (whole (g .sizes) h w))
   pub first : start ≡ getD (vars-of (whole (g .sizes) h w) .limits) 0 0
   pub cells : Cells (whole (g .sizes) h w .scratch .marks)
-  pub room : length (blame (store-of (whole (g .sizes) h w)) (vars-of (whole (g .sizes) h w)) (upper (vars-of (whole (g .sizes) h w)) start) (whole (g .sizes) h w .scratch .marks) (whole (g .sizes) h w .final)) ≤ suc (g .sizes .vars)
+  pub room : length (blame (store-of (whole (g .sizes) h w)) (vars-of (whole (g .sizes) h w)) (upper (vars-of (whole (g .sizes) h w)) start) (whole (g .sizes) h w .scratch .marks) (whole (g .sizes) h w .final .items)) ≤ suc (g .sizes .vars)
 
 -- what it leaves: the clause, and no mark that was not there before
 pub record Blamed (d : Sizes) (h : Header) (x : Whole) (start : ℕ) (r : Header) (w : List ℕ) : Type 0 where
   pub seen : List ℕ
-  pub holds : Holds d r w (traced x seen (blame (store-of x) (vars-of x) (upper (vars-of x) start) (x .scratch .marks) (x .final)))
-  pub head : r ≡ with-final-head h (members (length (blame (store-of x) (vars-of x) (upper (vars-of x) start) (x .scratch .marks) (x .final))))
+  pub holds : Holds d r w (traced x seen (blame (store-of x) (vars-of x) (upper (vars-of x) start) (x .scratch .marks) (x .final .items)))
+  pub head : r ≡ with-final-head h (members (length (blame (store-of x) (vars-of x) (upper (vars-of x) start) (x .scratch .marks) (x .final .items))))
   pub cells : Cells seen
   pub only : (v : ℕ) → 0 < getD seen v 0 → 0 < getD (x .scratch .marks) v 0
 
-pub same-head : {d : Sizes} {h : Header} {w : List ℕ} → Rep d h w → h ≡ with-final-head h (members (length (whole d h w .final)))
+pub same-head : {d : Sizes} {h : Header} {w : List ℕ} → Rep d h w → h ≡ with-final-head h (members (length (whole d h w .final .items)))
 same-head {d} {h} {w} r = ap (λ n. with-final-head h (members n)) (sym (final-counted r))
 
 module _ (g : Config) (h : Header) (w₀ : List ℕ) (start : ℕ) (p : Rep (g .sizes) h w₀) (b : Blamable g h w₀ start) where
@@ -291,10 +312,10 @@ module _ (g : Config) (h : Header) (w₀ : List ℕ) (start : ℕ) (p : Rep (g .
       let f = b .first in
       subst (λ j. Blaming d h x start j h w₀) (sym e) (record {
         seen = x .scratch .marks;
-        out = x .final;
-        holds = record { rep = p; whole = refl };
+        out = x .final .items;
+        holds = record { rep = p; whole = ap (with-final x) (sym (final-same p)) };
         head = same-head p;
-        rest = ap (λ u. blame st vs u (x .scratch .marks) (x .final)) (left-all vs start);
+        rest = ap (λ u. blame st vs u (x .scratch .marks) (x .final .items)) (left-all vs start);
         cells = b .cells;
         ahead = λ v q. inl q;
         least = omega (arith, b .formed .vars .limits 0 (b .deep));
@@ -311,7 +332,7 @@ module _ (g : Config) (h : Header) (w₀ : List ℕ) (start : ℕ) (p : Rep (g .
     whole-is : whole d r w ≡ traced x (i .seen) (i .out)
     whole-is = i .holds .whole
 
-    turn : blame st vs (q ∷ left vs start k) (i .seen) (i .out) ≡ blame st vs (upper vs start) (x .scratch .marks) (x .final)
+    turn : blame st vs (q ∷ left vs start k) (i .seen) (i .out) ≡ blame st vs (upper vs start) (x .scratch .marks) (x .final .items)
     turn = ap (λ u. blame st vs u (i .seen) (i .out)) (sym (left-more vs start k low within)) ∙ i .rest
 
     reason : reason-lit vs q ≢ no-reason → Implies (st .clauses) (reason-lit vs q) q (reverse (take k (vs .trail)))
@@ -329,7 +350,7 @@ module _ (g : Config) (h : Header) (w₀ : List ℕ) (start : ℕ) (p : Rep (g .
     fits : is-seen (i .seen) q ≡ true → reason-lit vs q ≡ no-reason → mem (neg q) (i .out) ≡ false → length (i .out) ≤ d .vars
     fits s e m =
         let o = insert (i .out) (neg q) in
-        let z : blame st vs (left vs start k) (set (i .seen) (var q) 0) o ≡ blame st vs (upper vs start) (x .scratch .marks) (x .final) =
+        let z : blame st vs (left vs start k) (set (i .seen) (var q) 0) o ≡ blame st vs (upper vs start) (x .scratch .marks) (x .final .items) =
         sym (blame-decision st vs q (left vs start k) (i .seen) (i .out) s e) ∙ turn in
         omega (arith, b .room, ap length z, blame-longer st vs (left vs start k) (set (i .seen) (var q) 0) o, ap length (insert-new (i .out) (neg q) m), length-append (i .out) (neg q ∷ []))
 
@@ -356,7 +377,7 @@ module _ (g : Config) (h : Header) (w₀ : List ℕ) (start : ℕ) (p : Rep (g .
             seen = seen′;
             out = out′;
             holds = rw e at (o .holds);
-            head = o .head ∙ ap (λ (y : Whole). with-final-head r (members (length (y .final)))) e ∙ ap (λ (y : Header). with-final-head y (members (length out′))) (i .head);
+            head = o .head ∙ ap (λ (y : Whole). with-final-head r (members (length (y .final .items)))) e ∙ ap (λ (y : Header). with-final-head y (members (length out′))) (i .head);
             rest = sym f ∙ turn;
             cells = c;
             ahead = t;
@@ -371,7 +392,7 @@ module _ (g : Config) (h : Header) (w₀ : List ℕ) (start : ℕ) (p : Rep (g .
           let u = left vs start k in
           split (on? (is-seen (i .seen) q))
           (λ s. split (same? (reason-lit vs q) no-reason)
-          (λ e. turned (set (i .seen) (var q) 0) (insert (i .out) (neg q)) (passed-decision q y s e) (blame-decision st vs q u (i .seen) (i .out) s e)
+          (λ e. turned (set (i .seen) (var q) 0) (insert (i .out) (neg q)) (passed-decision q y s e ∙ ap (with-final (remarked y (set (i .seen) (var q) 0))) (inserted-with (x .final) (i .out) (neg q))) (blame-decision st vs q u (i .seen) (i .out) s e)
           (cells-set (i .seen) (var q) 0 (omega arith) (i .cells))
           (ahead-cleared (b .formed .vars) start (b .first) (x .scratch .marks) k within (i .seen) (i .cells) (i .ahead)))
           (λ ne. turned (set m (var q) 0) (i .out) (passed-implied q y s ne) (blame-implied st vs q u (i .seen) (i .out) s ne)
@@ -388,7 +409,7 @@ module _ (g : Config) (h : Header) (w₀ : List ℕ) (start : ℕ) (p : Rep (g .
   blaming-ends i r w k e =
       let z : i ≡ start = omega (arith, k .least) in
       let u : left vs start i ≡ [] = ap (left vs start) z ∙ left-none vs start in
-      let o : k .out ≡ blame st vs (upper vs start) (x .scratch .marks) (x .final) =
+      let o : k .out ≡ blame st vs (upper vs start) (x .scratch .marks) (x .final .items) =
       sym (blame-none st vs (k .seen) (k .out)) ∙ ap (λ t. blame st vs t (k .seen) (k .out)) (sym u) ∙ k .rest in
       record {
         seen = k .seen;
@@ -420,8 +441,8 @@ module _ (d : Sizes) (h : Header) (w : List ℕ) (l : ℕ) (p : Rep d h w) (a : 
     pub insert-asks : reason-lit (vars-of y) l ≡ no-reason → Insertable d h y (neg l)
     insert-asks e = record { low = neg-range l (d .vars) (a .low); room = λ m. omega (arith, a .room seen e m, final-counted p) }
 
-    pub pass-decision : reason-lit (vars-of y) l ≡ no-reason → (r : Header) (w₁ w₂ : List ℕ) → Holds d r w₁ (with-final y (insert (y .final) (neg l)))
-        → r ≡ with-final-head h (members (length (insert (y .final) (neg l))))
+    pub pass-decision : reason-lit (vars-of y) l ≡ no-reason → (r : Header) (w₁ w₂ : List ℕ) → Holds d r w₁ (with-final y (inserted (y .final) (neg l)))
+        → r ≡ with-final-head h (members (length (insert (y .final .items) (neg l))))
         → Holds d r w₂ (with-scratch (whole d r w₁) (marked (whole d r w₁ .scratch) (var l) 0))
         → Passed d h y l r w₂
     pass-decision e r w₁ w₂ k q m =

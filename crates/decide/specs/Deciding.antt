@@ -30,6 +30,7 @@ use Rattle.activity.specs.Pick.{below, below-some, below-none}
 use Rattle.trail.specs.View.{Assignment, enqueued, next-level}
 use Rattle.trail.specs.declared.TrailHead.{TrailHead}
 use Rattle.watch.specs.View.{Under}
+use Rattle.litset.specs.View.{emptied}
 use Rattle.state.specs.declared.Sizes.{Sizes}
 use Rattle.state.specs.declared.Header.{Header}
 use Rattle.state.specs.declared.Config.{Config}
@@ -54,7 +55,7 @@ branch-of Nothing = none
 abbrev pub decision-of : Config → Decision → List ℕ → model.Decision
 decision-of g (Decided h) w = model.decided (state-at g h w)
 decision-of g (Complete h) w = model.complete (state-at g h w)
-decision-of g (Failed h) w = model.failed (state-at g h w) (whole (g .sizes) h w .final)
+decision-of g (Failed h) w = model.failed (state-at g h w) (whole (g .sizes) h w .final .items)
 
 -- as between two steps, but for a final clause
 pub record Ended (g : Config) (h : Header) (w : List ℕ) : Type 0 where
@@ -75,10 +76,10 @@ pub record Decides (g : Config) (m : model.Decision) (r : Decision) (w : List �
   pub settled : Settled g r w
 
 -- when the final clause is cleared, nothing is half done
-pub ended-cleared : {g : Config} {h : Header} {w : List ℕ} (r : Header) (w′ : List ℕ) → Ended g h w → Holds (g .sizes) r w′ (with-final (whole (g .sizes) h w) [])
+pub ended-cleared : {g : Config} {h : Header} {w : List ℕ} (r : Header) (w′ : List ℕ) → Ended g h w → Holds (g .sizes) r w′ (with-final (whole (g .sizes) h w) (emptied (2 * g .sizes .vars) (whole (g .sizes) h w .final)))
     → r ≡ with-final-head h (members 0) → Has g r w′ (state-at g h w)
 ended-cleared {g} {h} {w} r w′ e k q =
-    let s : state-at g r w′ ≡ state-at g h w = ap (state-of r) (k .whole) ∙ ap (λ (y : Header). state-of y (with-final (whole (g .sizes) h w) [])) q in
+    let s : state-at g r w′ ≡ state-at g h w = ap (state-of r) (k .whole) ∙ ap (λ (y : Header). state-of y (with-final (whole (g .sizes) h w) (emptied (2 * g .sizes .vars) (whole (g .sizes) h w .final)))) q in
     record {
       still = record {
         rep = k .rep;

@@ -16,15 +16,18 @@ use Rattle.learning.specs.Marks.{Cells, cells-set, cells-none}
 use Rattle.learning.specs.Parts.{upper}
 use Rattle.learning.specs.Final.{final-law}
 use Rattle.scratch.specs.View.{marked}
+use Rattle.litset.specs.View.{Members, inserted, with-items}
+use Rattle.litset.specs.Items.{inserted-with, with-items-again}
 use Rattle.state.specs.declared.Sizes.{Sizes}
 use Rattle.state.specs.declared.Header.{Header}
 use Rattle.state.specs.declared.Config.{Config}
 use Rattle.state.specs.View.{Whole, whole, Rep, Holds, state-of, with-scratch, with-final}
 use Rattle.state.specs.Laws.{with-final-head}
-use Rattle.state.specs.MarksLaws.{members, Insertable, final-counted, scratch-length}
+use Rattle.state.specs.MarksLaws.{members, Insertable, final-counted, final-same, scratch-length}
 use Rattle.state.specs.AssignmentLaws.{levels-held}
 use Rattle.state.specs.Still.{config-of, state-at, Still}
-use Rattle.decide.specs.Blaming.{traced, store-of, vars-of, Blamable, Blamed}
+use Rattle.decide.specs.Marking.{remarked}
+use Rattle.decide.specs.Blaming.{traced, store-of, vars-of, Begins, blame-begins, Blamable, Blamed}
 
 -- ---- the definition's two cases
 
@@ -61,12 +64,12 @@ insert-first p = refl
 
 -- the whole with the final clause c
 pub record Explained (d : Sizes) (h : Header) (x : Whole) (c : List ℕ) (r : Header) (w : List ℕ) : Type 0 where
-  pub holds : Holds d r w (with-final x c)
+  pub holds : Holds d r w (with-final x (with-items (x .final) c))
   pub head : r ≡ with-final-head h (members (length c))
 
 -- the state is as it was
 pub explained-state : {d : Sizes} {h : Header} {x : Whole} {c : List ℕ} {r : Header} {w : List ℕ} → Explained d h x c r w → state-of r (whole d r w) ≡ state-of h x
-explained-state {x = x} {c = c} {r = r} e = ap (state-of r) (e .holds .whole) ∙ ap (λ (y : Header). state-of y (with-final x c)) (e .head)
+explained-state {x = x} {c = c} {r = r} e = ap (state-of r) (e .holds .whole) ∙ ap (λ (y : Header). state-of y (with-final x (with-items (x .final) c))) (e .head)
 
 module _ (g : Config) (h : Header) (w : List ℕ) (s : Still g h w) (p : ℕ) (on : p ∈ (vars-of (whole (g .sizes) h w) .trail)) where
   abbrev d : Sizes
@@ -88,12 +91,18 @@ module _ (g : Config) (h : Header) (w : List ℕ) (s : Still g h w) (p : ℕ) (o
   explain-asks = record { low = trail-range (s .formed .vars) p on; room = λ _. omega (arith, sym (final-counted (s .rep)) ∙ ap length (s .idle .final)) }
 
   -- p is the clause's first literal
-  module _ (r : Header) (w₁ : List ℕ) (k : Holds d r w₁ (with-final x (insert (x .final) p))) (e : r ≡ with-final-head h (members (length (insert (x .final) p)))) where
-    out-is : insert (x .final) p ≡ p ∷ []
+  module _ (r : Header) (w₁ : List ℕ) (k : Holds d r w₁ (with-final x (inserted (x .final) p))) (e : r ≡ with-final-head h (members (length (insert (x .final .items) p)))) where
+    out-is : insert (x .final .items) p ≡ p ∷ []
     out-is = ap (λ o. insert o p) (s .idle .final) ∙ insert-first p
 
-    first-holds : Holds d r w₁ (with-final x (p ∷ []))
-    first-holds = rw out-is at k
+    set-is : inserted (x .final) p ≡ with-items (x .final) (p ∷ [])
+    set-is =
+        ap (λ (m : Members). inserted m p) (sym (final-same (s .rep)))
+        ∙ inserted-with (x .final) (x .final .items) p
+        ∙ ap (with-items (x .final)) out-is
+
+    first-holds : Holds d r w₁ (with-final x (with-items (x .final) (p ∷ [])))
+    first-holds = subst (λ (m : Members). Holds d r w₁ (with-final x m)) set-is k
 
     first-head : r ≡ with-final-head h (members 1)
     first-head = rw out-is at e
@@ -168,9 +177,18 @@ module _ (g : Config) (h : Header) (w : List ℕ) (s : Still g h w) (p : ℕ) (o
               (λ e. ap (λ j. getD (set (b .seen) (var p) 0) j 0) e ∙ getD-set-same (b .seen) (var p) 0 0 (omega (arith, seen-length, explain-var)) ∙ sym (zeros (g .sizes .vars) v))
               (λ ne. getD-set-other (b .seen) (var p) v 0 0 ne ∙ only-p v ne ∙ sym (zeros (g .sizes .vars) v)))
 
+          -- p was put in before the walk
+          same-items : {o : List ℕ} → Begins p o → with-items (with-items (x .final) (p ∷ [])) o ≡ with-items (x .final) o
+          same-items {o} f = rw (f .is) (with-items-again (x .final) p (f .rest))
+
           ended : Explained d h x (blame st vs (upper vs start) first-seen (p ∷ [])) r′ w₄
           ended =
-              let k : Holds d r′ w₄ (traced x (set (b .seen) (var p) 0) (blame st vs (upper vs start) first-seen (p ∷ []))) = rw (b .holds .whole) at c in
+              let o : List ℕ = blame st vs (upper vs start) first-seen (p ∷ []) in
+              let again : with-items (with-items (x .final) (p ∷ [])) o ≡ with-items (x .final) o =
+              same-items (blame-begins st vs (upper vs start) first-seen p (p ∷ []) (record { rest = []; is = refl })) in
+              let l : Holds d r′ w₄ (traced (traced x first-seen (p ∷ [])) (set (b .seen) (var p) 0) o) = rw (b .holds .whole) at c in
+              let k : Holds d r′ w₄ (traced x (set (b .seen) (var p) 0) o) =
+              subst (λ (m : Members). Holds d r′ w₄ (with-final (remarked x (set (b .seen) (var p) 0)) m)) again l in
               record {
                 holds = rw (cleared ∙ sym (s .idle .marks)) at k;
                 head = b .head ∙ ap (λ (y : Header). with-final-head y (members (length (blame st vs (upper vs start) first-seen (p ∷ []))))) first-head;

@@ -68,13 +68,13 @@ at-start d x =
 -- what `start` leaves of w₀
 pub record Started (d : Sizes) (r : Header) (w₀ w : List ℕ) : Type 0 where
   pub rep : Rep d r w
-  pub whole : whole d r w ≡ at-start d (whole d r w₀)
   pub state : state-of r (whole d r w) ≡ initial-state (d .vars)
   pub marks : whole d r w .scratch .marks ≡ replicate (d .vars) 0
   pub lists : whole d r w .watches .lists ≡ replicate (2 * d .vars) []
   pub pushed : whole d r w .clauses .pushed ≡ []
   pub final : whole d r w .final .items ≡ []
   pub fresh : Fresh (whole d r w)
+  pub whole : whole d r w ≡ at-start d (whole d r w₀)
 
 -- block k, lent from a to e
 module _ (d : Sizes) (w : List ℕ) (r : Room d (length w)) (k a e : ℕ) (g : k < 5) (ha : a ≡ base k (shape d)) (he : e ≡ base k (shape d) + getD (shape d) k 0)

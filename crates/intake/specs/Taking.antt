@@ -125,7 +125,7 @@ module _ (g : Config) (h : Header) (w : List ℕ) (rep : Rep (g .sizes) h w) (id
         let k = rw e at kept-is in
         record {
           rep = a .rep;
-          idle = record { marks = rw (a .scratch) (idle .marks); final = a .final ∙ idle .final; pushed = a .none; nodes = a .fresh .under };
+          idle = record { marks = rw (a .scratch) (idle .marks); final = rw (a .final) (idle .final); pushed = a .none; nodes = a .fresh .under };
           state = rw k (a .state);
           answer = rw k refl;
         }

@@ -24,6 +24,7 @@ use Rattle.watching.specs.Attach.{attach-stored}
 use Rattle.trail.specs.View.{Undoable, enqueued}
 use Rattle.trail.specs.View as tv
 use Rattle.scratch.specs.View.{Scratch}
+use Rattle.litset.specs.View.{Members}
 use Rattle.trail.specs.declared.TrailHead.{TrailHead}
 use Rattle.state.specs.View.{Whole, whole, Rep, Holds, with-assignment}
 use Rattle.state.specs.Laws.{with-trail}
@@ -213,7 +214,7 @@ module _ (g : Config) (h : Header) (w : List ℕ) (n level : ℕ) (s : Still g h
           let i = back-idle g h w s level k w₁ e f in
           record {
             marks = ap (λ (y : Scratch). y .marks) (o .scratch) ∙ i .marks;
-            final = o .final ∙ i .final;
+            final = ap (λ (y : Members). y .items) (o .final) ∙ i .final;
             pushed = o .none;
             nodes = o .fresh .under;
           }

@@ -53,7 +53,7 @@ still-aside g h h′ w w′ k a f =
       idle =
           record {
             marks = ap (λ z. z .marks) (a .scratch) ∙ k .idle .marks;
-            final = a .final ∙ k .idle .final;
+            final = ap (λ z. z .items) (a .final) ∙ k .idle .final;
             pushed = a .pushed ∙ k .idle .pushed;
             nodes =
                 under-clauses (length (x .clauses .clauses)) (x .watches) e

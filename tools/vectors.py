@@ -364,7 +364,7 @@ def oracle_text(program, compared=True):
     return "\n".join(text) + "\n"
 
 
-def told(head, rows):
+def told_text(head, rows):
     """The text of rows (name, sentence of document 01, why, cells, expected), each tried on the reading."""
     text, last = head + ["# Made by: tools/vectors.py from tools/cases.py. %d scripts." % len(rows)], None
     for name, sentence, why, cells, expected in rows:
@@ -378,7 +378,7 @@ def told(head, rows):
 
 
 def storage_text():
-    return told([
+    return told_text([
         "# Scripts that are short of storage, or just not.",
         "# A line: name | script cells | out cells. Above each: why, and before that, for it and those that follow,",
         "# the sentence of document 01 they come from.",
@@ -386,7 +386,7 @@ def storage_text():
 
 
 def refusals_text():
-    return told([
+    return told_text([
         "# Scripts that are turned back, and those just inside the boundary.",
         "# A line: name | lengths of work, activities, out | script cells | refused NUMBER PLACE, or the out cells.",
         "# {N: cells} stands for the cells N times over. Above them: the row or sentence of document 01.",

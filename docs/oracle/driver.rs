@@ -1,8 +1,8 @@
 //! Runs scripts on the oracle: one script a line on stdin, decimal cells separated by blanks;
 //! one line of out cells a script on stdout. A blank line, or one that begins with #, is skipped.
 //!
-//! `--total` writes the sums of conflicts and restarts to stderr at the end, `--each` a line a
-//! script: conflicts, restarts, propagations, microseconds of the run.
+//! `--each` writes a line a script to stderr: conflicts, restarts, propagations, microseconds of
+//! the run. `--total` writes their sums at the end.
 
 use oracle::{run, Cost};
 use std::io::{BufRead, Write};

@@ -79,7 +79,7 @@ fn still_ok(g: Config, h: Header, work: &[u32], status: Status) -> Header
     state::assignment::with_ok(h, false)
 }
 
-// Back to level 0, with no final clause.
+// Rule 9: back to level 0, and the final clause is taken back.
 fn back(g: Config, h: Header, work: &mut [u32], status: Status) -> Header
     requires { ⌜ Left g status h (now work) ⌝ }
     ensures { λ k. ⌜ Has g k (now (work .exit)) (cancel-until (g .phase) (state-at g h (now (work .entry))) 0) ⌝ }
@@ -123,7 +123,7 @@ fn solve_ok(
     }
 }
 
-// A solve.
+// A solve; where the clauses are known to have no model, nothing is searched.
 pub fn solve(
     g: Config,
     x: Solver,
@@ -149,7 +149,7 @@ pub fn solve(
     Next { solver: x, at: end }
 }
 
-// A clause.
+// A clause, answered in one cell.
 pub fn clause(
     g: Config,
     x: Solver,

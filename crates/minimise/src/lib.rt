@@ -66,7 +66,7 @@ fn is_open(d: Sizes, h: Header, work: &[u32], l: Lit) -> bool
     state::marks::mark(d, h, work, v) != 1
 }
 
-// The same, in clause c.
+// `next_open` in clause c.
 fn open_in(d: Sizes, h: Header, work: &[u32], c: usize, i: usize) -> usize
     requires { ⌜ Rep d h (now work) ⌝ }
     requires { ⌜ (c < length (whole d h (now work) .clauses .clauses)) × InRange (d .vars) (clause-of (whole d h (now work) .clauses) c) ⌝ }

@@ -49,7 +49,7 @@ fn is_true(d: Sizes, h: Header, work: &[u32], p: Lit) -> bool
     x == p.sign()
 }
 
-// Whether p is false, alike.
+// Whether p is false, by one test too.
 fn is_false(d: Sizes, h: Header, work: &[u32], p: Lit) -> bool
     requires { ⌜ Rep d h (now work) ⌝ }
     requires { ⌜ var (p .0) < d .vars ⌝ }
@@ -59,7 +59,7 @@ fn is_false(d: Sizes, h: Header, work: &[u32], p: Lit) -> bool
     x + p.sign() == 1
 }
 
-// Clause c has its false literal f second.
+// Clause c gets its false literal f second, where that stood first.
 fn false_second(d: Sizes, h: Header, work: &mut [u32], c: usize, f: Lit)
     requires { ⌜ Rep d h (now work) ⌝ }
     requires { ⌜ 2 ≤ length (clause-of (whole d h (now work) .clauses) c) ⌝ }
@@ -123,7 +123,7 @@ fn go(d: Sizes, h: Header, work: &mut [u32], p: Lit, c: Cursor, k: usize, b: Lit
     watches::leave(d, h, work, p, c, m, b)
 }
 
-// No other literal can be watched: the clause's first literal q, whose value is v, is false, or it is set.
+// No other literal can be watched. The clause's first literal q, whose value is v, is false, which is a conflict, or it becomes true.
 fn settle(d: Sizes, h: Header, work: &mut [u32], p: Lit, c: Cursor, q: Lit, v: u32) -> Step
     requires { ⌜ Rep d h (now work) ⌝ }
     requires { ⌜ (p .0 < 2 * d .vars) × (q .0 < 2 * d .vars) ⌝ }

@@ -100,7 +100,7 @@ fn run_in(g: Config, script: &[u32], work: &mut [u32], act: &mut [f64], out: &mu
     n
 }
 
-// An accepted script.
+// Runs an accepted script. It is lent only the cells that it asks for, so that the rest of work and activities is out of its reach.
 pub fn run_accepted(
     script: &[u32],
     work: &mut [u32],

@@ -1,4 +1,4 @@
-// Rules 5, 6, 8 and 9: a turn of the search, the search, and a solve.
+// Rules 5, 6 and 8: a turn of the search, the search, and the searches of a solve.
 ghost use mathlib.Core.Path.{_≡_};
 ghost use mathlib.Core.Bool.{true, false};
 ghost use Prim.Native.Nat.{suc, _+_, _≤_, _<_};

@@ -193,13 +193,12 @@ fn lent(n: &Named) -> Lent {
     let room = n.room.unwrap_or(stored);
     assert!(stored.0 <= room.0 && stored.1 <= room.1, "{} clauses, {} literals", stored.0, stored.1);
     assert!(room.0 <= 65535 && room.1 <= 1048576, "{} clauses, {} literals", room.0, room.1);
-    let vars = script.vars as usize;
-    let solves = script.records.iter().filter(|r| matches!(r, Record::Solve(..))).count();
+    let cells = script.cells(room.0, room.1);
     Lent {
-        script: script.cells(room.0, room.1),
-        work: vec![1; 32 * vars + 8 * room.0 as usize + room.1 as usize + 64],
-        activities: vec![1.0; vars],
-        out: vec![1; script.records.len() - solves + solves * (vars + 4)],
+        work: vec![1; binding::work_len(script.vars, room.0, room.1) as usize],
+        activities: vec![1.0; script.vars as usize],
+        out: vec![1; binding::out_len(&cells) as usize],
+        script: cells,
     }
 }
 

@@ -6,27 +6,18 @@
 //!
 //! What it prints cannot lose a record, a literal or a variable.
 
+mod both;
 #[path = "../../tools/shapes.rs"]
 #[allow(dead_code)]
 mod shapes;
 
+use both::{other, patched, shown, words, Out};
 use shapes::{lits_mut, lits_of, smaller, Record, Rng, Script};
-use std::panic::{catch_unwind, AssertUnwindSafe};
 use std::time::Instant;
-
-fn words(cells: &[u32]) -> String {
-    cells.iter().map(|c| c.to_string()).collect::<Vec<_>>().join(" ")
-}
-
-type Out = Option<Vec<u32>>;
-
-fn run(f: fn(&[u32]) -> Vec<u32>, script: &[u32]) -> Out {
-    catch_unwind(AssertUnwindSafe(|| f(script))).ok()
-}
 
 fn outs(s: &Script) -> (Out, Out) {
     let cells = s.cells(8, 64);
-    (run(|s| oracle_patched::run(s).0, &cells), run(|s| oracle_other::run(s).0, &cells))
+    (patched(&cells), other(&cells))
 }
 
 fn differs(s: &Script) -> bool {
@@ -77,7 +68,7 @@ fn main() {
     let args: Vec<String> = std::env::args().skip(1).collect();
     let number = |i: usize| args.get(i).and_then(|a| a.parse::<u64>().ok()).expect("shrunk SEED SECONDS [mode=N]");
     let mode: Option<u32> = args.iter().find_map(|a| a.strip_prefix("mode=")).map(|m| m.parse().expect("a mode"));
-    std::panic::set_hook(Box::new(|_| ()));
+    both::quietly();
     let mut rng = Rng(number(0));
     let began = Instant::now();
     let mut best: Option<Script> = None;
@@ -104,7 +95,6 @@ fn main() {
     println!("tried={} differ={}", tried, found);
     if let Some(s) = best {
         let (a, b) = outs(&s);
-        let shown = |o: Out| o.map_or("panics".into(), |o| words(&o));
-        println!("script  {}\npatched {}\nother   {}", words(&s.cells(8, 64)), shown(a), shown(b));
+        println!("script  {}\npatched {}\nother   {}", words(&s.cells(8, 64)), shown(&a), shown(&b));
     }
 }

@@ -12,7 +12,9 @@
 //! `after-conflict`: the second build is run only where the first has a conflict, for changes that need one.
 //! `learns`: not where two builds differ, but where a solve stores a clause.
 
-use std::panic::{catch_unwind, AssertUnwindSafe};
+mod both;
+
+use both::{other, patched, shown, words};
 
 struct Space {
     modes: Vec<u32>,
@@ -33,24 +35,6 @@ struct Search {
     found: u64,
 }
 
-fn words(cells: &[u32]) -> String {
-    cells.iter().map(|c| c.to_string()).collect::<Vec<_>>().join(" ")
-}
-
-type Out = Option<Vec<u32>>;
-
-fn run(f: fn(&[u32]) -> Vec<u32>, script: &[u32]) -> Out {
-    catch_unwind(AssertUnwindSafe(|| f(script))).ok()
-}
-
-fn patched(script: &[u32]) -> Out {
-    run(|s| oracle_patched::run(s).0, script)
-}
-
-fn other(script: &[u32]) -> Out {
-    run(|s| oracle_other::run(s).0, script)
-}
-
 /// Whether a solve of the script stores a clause.
 fn learns(script: &[u32]) -> bool {
     let mut stored = vec![];
@@ -63,10 +47,6 @@ fn learns(script: &[u32]) -> bool {
         before = now;
         solve && more
     })
-}
-
-fn shown(out: &Out) -> String {
-    out.as_ref().map_or("panics".into(), |o| words(o))
 }
 
 impl Search {
@@ -169,7 +149,7 @@ fn main() {
         after_conflict: args.iter().any(|a| a == "after-conflict"),
         learns: args.iter().any(|a| a == "learns"),
     };
-    std::panic::set_hook(Box::new(|_| ()));
+    both::quietly();
     let mut search = Search { space, vars: 1, tried: 0, found: 0 };
     for size in list("from", &[6])[0] as usize..=number(0) as usize {
         for vars in 1..=number(1) {

@@ -1,4 +1,4 @@
--- What a run promises.
+-- What `run` promises of a script and the slices lent, and `engine_run` of the same.
 use Prim.Native.Nat.{ℕ}
 use mathlib.Core.Path.{_≡_}
 use mathlib.Core.List.{List}
@@ -24,7 +24,8 @@ abbrev pub value-of : model.Answer → ℕ
 value-of (model.turned-back number place) = place
 value-of (model.ran cells) = cells
 
--- Every cell of the slices, of a run and of a refusal, is as document 01 defines; and the cells that a run writes meet demand 3.
+-- The answer is r; work, activities and out were w, acts and o, and are w′, acts′ and o′ afterwards. Every cell of them, of a run and of a refusal, is as
+-- document 01 defines; and the cells that a run writes meet demand 3.
 pub record Runs (script w : List ℕ) (acts : List Float) (o : List ℕ) (r : Answer) (w′ : List ℕ) (acts′ : List Float) (o′ : List ℕ) : Type 0 where
   pub answer : answer-of r ≡ after script w acts o .answer
   pub work : w′ ≡ after script w acts o .work

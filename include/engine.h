@@ -49,7 +49,13 @@ enum engine_clause {
 enum engine_verdict {
     ENGINE_TRUE = 0,  /* the model: for each variable 0 (true) or 1 (false) */
     ENGINE_FALSE = 1, /* the final clause: negated assumptions */
-    ENGINE_UNDEF = 2  /* one cell of cause: 1 the budget is spent, 2 no storage */
+    ENGINE_UNDEF = 2  /* one cell of cause */
+};
+
+/* Why a solve stopped. */
+enum engine_cause {
+    ENGINE_BUDGET = 1, /* the budget is spent */
+    ENGINE_STORAGE = 2 /* no storage for a learnt clause */
 };
 
 /* Runs a script.

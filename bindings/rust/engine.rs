@@ -19,6 +19,14 @@ pub mod c {
     }
 }
 
+/// A solve's first out cell.
+pub const TRUE: u32 = 0;
+pub const FALSE: u32 = 1;
+pub const UNDEF: u32 = 2;
+
+/// The out cell of a clause for which there was no storage.
+pub const UNTAKEN: u32 = 2;
+
 /// Why a script is turned back: the number and the place of docs/FORMAT.md.
 #[derive(Clone, Copy, Debug, PartialEq, Eq)]
 pub struct Refusal {

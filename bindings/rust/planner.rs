@@ -58,13 +58,13 @@ fn rules(script: &mut Vec<u32>) {
 /// A solve's answer in words.
 fn words(answer: u32, body: &[u32]) -> String {
     match answer {
-        0 => (0..3)
+        engine::TRUE => (0..3)
             .flat_map(|m| (0..LINES).map(move |l| (m, l)))
             .filter(|&(m, l)| body[on(m, l) as usize / 2] == 0)
             .map(|(m, l)| format!(" {} on line {}", NAMES[m as usize], l + 1))
             .collect(),
-        1 if body.is_empty() => " no, whatever is asked for".into(),
-        1 => body
+        engine::FALSE if body.is_empty() => " no, whatever is asked for".into(),
+        engine::FALSE => body
             .iter()
             .map(|&l| format!(" {}{}", if l % 2 == 1 { "-" } else { "" }, l / 2 + 1))
             .fold(" no, since one of these must be:".into(), |text, literal| text + &literal),

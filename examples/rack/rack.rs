@@ -188,12 +188,12 @@ impl Book {
         let mut out = vec![0; engine::out_len(&script) as usize];
         let written = engine::run(&script, &mut work, &mut activities, &mut out).expect("an accepted script") as usize;
         let (taken, answers) = out[..written].split_at(self.clauses);
-        assert!(!taken.contains(&2), "a clause was not taken");
+        assert!(!taken.contains(&engine::UNTAKEN), "a clause was not taken");
         let (bare, wished) = answers.split_at(3 + answers[2] as usize);
         match wished[0] {
-            0 => Ok(self.loading(&wished[3..])),
-            1 if bare[0] == 1 || wished[2] == 0 => Ok("no loading: whatever is wished for, the bans leave none".into()),
-            1 => Ok(self.clash(&wished[3..])),
+            engine::TRUE => Ok(self.loading(&wished[3..])),
+            engine::FALSE if bare[0] == engine::FALSE || wished[2] == 0 => Ok("no loading: whatever is wished for, the bans leave none".into()),
+            engine::FALSE => Ok(self.clash(&wished[3..])),
             _ => Err("no answer: the search was given up; there may be a loading or none".into()),
         }
     }

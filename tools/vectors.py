@@ -2,7 +2,8 @@
 """Makes and checks the files of vectors/, and states the small ones over the definition.
 
   tools/vectors.py ORACLE             write vectors/*.txt; ORACLE is the program of docs/oracle/build
-  tools/vectors.py --check [ORACLE]   run tools/reading.py, and ORACLE if given, over vectors/*.txt, and see that crates/replay has them
+  tools/vectors.py --check [ORACLE]   see that vectors/*.txt and crates/replay are what is made here, and run tools/reading.py,
+                                      and ORACLE if given, over them
   tools/vectors.py --random N SEED ORACLE
                                       compare ORACLE and tools/reading.py on N random scripts
   tools/vectors.py --antt DIR         write DIR/specs/*.antt and DIR/src/lib.rt from vectors/*.txt
@@ -423,6 +424,14 @@ def write(program):
 def check(program):
     wrong = 0
     entries = [fields for _, _, fields in read_file("oracle")]
+    made = [(name, line(cells)) for _, group in groups() for name, _, cells in group]
+    if made != [(name, cells) for name, cells, _ in entries]:
+        wrong += 1
+        print("the scripts of oracle.txt are not what the generator makes")
+    for name, text in (("storage", storage_text()), ("refusals", refusals_text())):
+        if open(path(name), encoding="utf-8").read() != text:
+            wrong += 1
+            print("%s.txt is not what the generator makes" % name)
     if program:
         if open(path("oracle"), encoding="utf-8").read() != oracle_text(program, False):
             wrong += 1

@@ -1,7 +1,8 @@
 /* The SAT engine as C sees it. docs/FORMAT.md says what a script and its answers are; this page says how to call.
  *
- * Link target/staticlib/libengine.a (x86-64 Linux, `rt staticlib engine`). It allocates nothing, keeps nothing between calls, reads no file and calls
- * nothing but C's memset, so calls on different slices may run at the same time.
+ * Link target/staticlib/libengine.a (x86-64 Linux, `rt staticlib engine`): cc -Iinclude PROGRAM.c target/staticlib/libengine.a. bindings/c/planner.c is
+ * a whole program. The library allocates nothing, keeps nothing between calls, reads no file and calls nothing but C's memset, so calls on different
+ * slices may run at the same time.
  *
  * Slices. A slice is two arguments: a pointer to its first element and how many elements it has (not bytes). What the caller owes, and no proof can see:
  *   - the pointer is not null and is aligned for its type, also where the length is 0, and that many elements can be read (and written, if not const);
@@ -72,7 +73,7 @@ uint64_t engine_run(const uint32_t *script, size_t script_len,
 /* The work cells that a script of these V, C and L needs: 32 V + 8 C + L + 64. */
 uint64_t engine_work_len(uint32_t v, uint32_t c, uint32_t l);
 
-/* The out cells that an accepted script needs: clauses + solves (V + 4). 0 if its header or a record is turned back. */
+/* The out cells that an accepted script needs: clauses + solves (V + 4). 0 if its header or a record is turned back; engine_run says why. */
 uint64_t engine_out_len(const uint32_t *script, size_t script_len);
 
 #ifdef __cplusplus

@@ -22,7 +22,7 @@ pub enum Prev {
 }
 
 // A place on a walk through a list: its node, the node before it plus one, or 0 where there is none, and how many nodes are left from here on.
-// A number and not `Prev`: the walk copies it at every node, and an enum with its padding.
+// The node before is a number and not a `Prev`: the walk copies it at every node, and an enum would be copied with its padding.
 pub struct Cursor {
     pub prev: usize,
     pub cur: usize,

@@ -24,7 +24,7 @@ use Rattle.learning.specs.Parts.{upper}
 use Rattle.learning.specs.Blame.{blame-cases}
 use Rattle.scratch.specs.View.{marked}
 use Rattle.store.specs.View.{clause-of}
-use Rattle.litset.specs.View.{Members, inserted, with-items}
+use Rattle.litset.specs.View.{inserted, with-items}
 use Rattle.litset.specs.Items.{inserted-with}
 use Rattle.trail.specs.View.{LitsOf}
 use Rattle.watch.specs.Meaning.{as-watches}

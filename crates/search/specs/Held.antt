@@ -33,7 +33,7 @@ solver-at g x w acts = record { state = state-at g (x .head) w; activity = activ
 -- the final clause of FALSE is the state's
 abbrev pub status-of : Config → Header → List ℕ → Status → model.Status
 status-of g h w Status.True = model.TRUE
-status-of g h w Status.False = model.FALSE (whole (g .sizes) h w .final)
+status-of g h w Status.False = model.FALSE (whole (g .sizes) h w .final .items)
 status-of g h w Status.Undef = model.UNDEF
 status-of g h w Status.NoStorage = model.NO-STORAGE
 

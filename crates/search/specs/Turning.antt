@@ -64,7 +64,7 @@ refutes g x w acts a b confl s z =
           conflict-cases (λ t. turn-of g (Outcome.Ends (record { solver = x; conflicts = a + 1; status = Status.False })) w acts ≡ t) (config-of g) a b
           (solver-at g x w acts) confl
           (λ _.
-          ap (λ (n : ℕ). model.ends (record { solver = solver-at g x w acts; conflicts = n; status = model.FALSE (whole (g .sizes) (x .head) w .final) })) (add-one a)
+          ap (λ (n : ℕ). model.ends (record { solver = solver-at g x w acts; conflicts = n; status = model.FALSE (whole (g .sizes) (x .head) w .final .items) })) (add-one a)
           ∙ ap (λ (f : List ℕ). model.ends (record { solver = solver-at g x w acts; conflicts = suc a; status = model.FALSE f })) (s .idle .final))
           (λ d e. absurd (omega (arith, z, d))) (λ d y e. absurd (omega (arith, z, d)));
       left = still-ended s;

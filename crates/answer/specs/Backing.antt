@@ -1,5 +1,5 @@
 -- The state that a solve leaves: closed for good after FALSE with an empty final clause, and back at level 0.
-use Prim.Native.Nat.{ℕ, _<_}
+use Prim.Native.Nat.{ℕ, _*_, _<_}
 use native.Mathlib.Omega.{arith}
 use mathlib.Core.Path.{_≡_, refl, sym, ap, subst, _∙_}
 use mathlib.Core.Logic.{_≢_, inl, inr}
@@ -14,6 +14,7 @@ use Rattle.model.specs.Search.{FALSE, still-ok}
 use Rattle.model.specs.Trail.{cancel-until}
 use Rattle.lawbase.specs.WellFormed.{WellFormed}
 use Rattle.trail.specs.View.{Undoable}
+use Rattle.litset.specs.View.{emptied}
 use Rattle.state.specs.View.{whole, Rep, Holds, state-of, with-final}
 use Rattle.state.specs.Laws.{with-final-head}
 use Rattle.state.specs.AssignmentLaws.{with-ok, heads-hold, whole-until, head-until}
@@ -68,16 +69,16 @@ module _ (g : Config) (h : Header) (w : List ℕ) where
     as-false : (k : Header) → StillOk Status.False k → StillOk s k
     as-false k = subst (λ (t : Status). StillOk t k) (sym f)
 
-    pub ok-kept : (n : ℕ) → n ≡ length (whole (g .sizes) h w .final) → n ≢ 0 → StillOk s h
-    ok-kept n e ne = as-false h (ok-final (state-at g h w) (whole (g .sizes) h w .final) (λ q. ne (e ∙ q)), ended)
+    pub ok-kept : (n : ℕ) → n ≡ length (whole (g .sizes) h w .final .items) → n ≢ 0 → StillOk s h
+    ok-kept n e ne = as-false h (ok-final (state-at g h w) (whole (g .sizes) h w .final .items) (λ q. ne (e ∙ q)), ended)
 
-    pub ok-closed : (n : ℕ) → n ≡ length (whole (g .sizes) h w .final) → n ≡ 0 → (k : Header) → k ≡ with-ok h false → StillOk s k
+    pub ok-closed : (n : ℕ) → n ≡ length (whole (g .sizes) h w .final .items) → n ≡ 0 → (k : Header) → k ≡ with-ok h false → StillOk s k
     ok-closed n e z k q =
         let o : Holds (g .sizes) (with-ok h false) w (whole (g .sizes) h w) = heads-hold (h .qhead) false (record { rep = ended .rep; whole = refl }) in
         let t : state-at g (with-ok h false) w ≡ model.with-ok (state-at g h w) false = ap (state-of (with-ok h false)) (o .whole) in
         subst (λ (y : Header). StillOk s y) (sym q)
         (as-false (with-ok h false) (
-          t ∙ ok-empty (state-at g h w) (whole (g .sizes) h w .final) (sym e ∙ z),
+          t ∙ ok-empty (state-at g h w) (whole (g .sizes) h w .final .items) (sym e ∙ z),
           record {
             rep = o .rep;
             marks = rw (o .whole) (ended .marks);
@@ -102,7 +103,7 @@ module _ (g : Config) (h : Header) (w : List ℕ) where
   left-ended Status.Undef l = still-ended l
   left-ended Status.NoStorage l = still-ended l
 
-  module _ (e : Ended g h w) (m : Header) (w₁ : List ℕ) (k : Holds (g .sizes) m w₁ (with-final (whole (g .sizes) h w) []) × (m ≡ with-final-head h (members 0))) where
+  module _ (e : Ended g h w) (m : Header) (w₁ : List ℕ) (k : Holds (g .sizes) m w₁ (with-final (whole (g .sizes) h w) (emptied (2 * g .sizes .vars) (whole (g .sizes) h w .final))) × (m ≡ with-final-head h (members 0))) where
     cleared : Has g m w₁ (state-at g h w)
     cleared = ended-cleared m w₁ e (k .0) (k .1)
 

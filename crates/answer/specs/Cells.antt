@@ -40,7 +40,7 @@ module _ {d : Sizes} {h : Header} {w : List ℕ} (r : Rep d h w) (at n : ℕ) (r
       let l : length body ≡ d .vars = ap length e ∙ vars-length r .values in
       (omega arith, omega (arith, r .room .vars))
 
-  pub final-fits : body ≡ whole d h w .final → (at + 3 + length body ≤ n) × (length body ≤ 4294967295)
+  pub final-fits : body ≡ whole d h w .final .items → (at + 3 + length body ≤ n) × (length body ≤ 4294967295)
   final-fits e =
       let l : length body ≡ h .finals .count = ap length e ∙ final-counted r in
       let m : h .finals .count ≤ d .vars + 1 = r .blocks .final .room .count in
@@ -68,7 +68,7 @@ module _ (g : Config) (r : Searched) (w : List ℕ) (out : List ℕ) (at : ℕ) 
   unfolding answer-of
   answers-true q body b k = by-status Status.True q (λ acts. subst (λ (l : List ℕ). Placed out at out′ e (cells 0 (r .conflicts) l)) b (cells-placed out at out′ e 0 (r .conflicts) body k))
 
-  pub answers-false : r .status ≡ Status.False → (body : List ℕ) → body ≡ whole (g .sizes) (r .solver .head) w .final
+  pub answers-false : r .status ≡ Status.False → (body : List ℕ) → body ≡ whole (g .sizes) (r .solver .head) w .final .items
       → (out′ ≡ paste out at (cells 1 (r .conflicts) body) (3 + length body)) × (e ≡ at + 3 + length body) → Answers
   unfolding answer-of
   answers-false q body b k = by-status Status.False q (λ acts. subst (λ (l : List ℕ). Placed out at out′ e (cells 1 (r .conflicts) l)) b (cells-placed out at out′ e 1 (r .conflicts) body k))

@@ -18,6 +18,7 @@ use Rattle.store.specs.View.{lit-pushed, discarded, put-pushed}
 use Rattle.store.specs.Cells.{put-pushed-more}
 use Rattle.watch.specs.View.{list-of, blocked}
 use Rattle.watch.specs.Walk.{Stands}
+use Rattle.litset.specs.View.{Members}
 use Rattle.watch.specs.declared.Cursor.{Cursor}
 use Rattle.state.specs.declared.Sizes.{Sizes}
 use Rattle.state.specs.declared.Header.{Header}
@@ -86,7 +87,7 @@ module _ {d : Sizes} {h r : Header} {w w′ : List ℕ} (v : Live d h w) where
           let k′ : Holds d r w′ (whole d h w) = rw (e, whole-until) at k in
           live-of k′ (v .fresh) (v .lits)
 
-  pub live-final : (xs : List ℕ) → Holds d r w′ (with-final (whole d h w) xs) → Live d r w′
+  pub live-final : (xs : Members) → Holds d r w′ (with-final (whole d h w) xs) → Live d r w′
   live-final xs k = live-of k (fresh-same refl refl (v .fresh)) (v .lits)
 
   pub live-blocked : (x b : ℕ) → Holds d r w′ (with-watches (whole d h w) (blocked x b (whole d h w .watches))) → Live d r w′

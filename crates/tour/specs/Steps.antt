@@ -13,6 +13,7 @@ use Rattle.model.specs.Trail.{level-end}
 use Rattle.model.specs.Final.{insert}
 use Rattle.trail.specs.View.{enqueued, next-level}
 use Rattle.watch.specs.View.{list-of, blocked, moved}
+use Rattle.litset.specs.View.{inserted, emptied}
 use Rattle.state.specs.declared.Sizes.{Sizes}
 use Rattle.state.specs.declared.Header.{Header}
 use Rattle.state.specs.View.{Whole, whole, with-assignment, with-watches, with-final}
@@ -113,10 +114,10 @@ module _ (d : Sizes) (h : Header) (x : Whole) where
 
   abbrev pub finished : ℕ → Stage
   finished l =
-      pick (ltb l (2 * d .vars)) (pick (leb (h .finals .count) (d .vars)) (stage (with-final-head h (members (length (insert (x .final) l)))) (with-final x (insert (x .final) l))) (stage h x)) (stage h x)
+      pick (ltb l (2 * d .vars)) (pick (leb (h .finals .count) (d .vars)) (stage (with-final-head h (members (length (insert (x .final .items) l)))) (with-final x (inserted (x .final) l))) (stage h x)) (stage h x)
 
   abbrev pub unfinished : Stage
-  unfinished = stage (with-final-head h (members 0)) (with-final x [])
+  unfinished = stage (with-final-head h (members 0)) (with-final x (emptied (2 * d .vars) (x .final)))
 
 -- ---- the header after three literals were pushed and the clause was closed
 

@@ -1,3 +1,4 @@
+pub mod Leading
 pub mod Mapped
 pub mod Activities
 pub mod Pick

@@ -1,7 +1,7 @@
 // Rule 7: activities of variables, and the pick of rule 6. Each operation on a float is rounded once.
 ghost use mathlib.Core.Path.{_≡_};
 ghost use mathlib.Core.List.{List, map};
-ghost use mathlib.Core.Option.{none};
+ghost use mathlib.Core.Option.{none, some};
 ghost use Prim.Native.Nat.{_<_, _≤_};
 ghost use lib.ListN.{length, getD, replicate};
 ghost use lib.Ieee.{Float};
@@ -10,6 +10,7 @@ ghost use Rattle.model.specs.Activity.{var-bump-activity, var-decay-activity};
 ghost use Rattle.model.specs.Decide.{pick};
 ghost use Rattle.activity.specs.Activities.{activity, scaled};
 ghost use Rattle.activity.specs.Pick.{below, better};
+ghost use Rattle.activity.specs.Leading.{First, Leads};
 
 // Each activity times 1e-100.
 fn rescale(act: &mut [f64])
@@ -59,23 +60,42 @@ pub fn initial(act: &mut [f64]) -> f64
     1.0
 }
 
-// The better of the best so far and variable i. Here and below the number of variables stands for no variable.
-fn better<'a>(values: &'a [u32], act: &'a [f64], best: usize, i: usize) -> usize
-    requires { ⌜ length (now values) ≤ length (now act) ⌝ }
-    requires { ⌜ i < length (now values) ⌝ }
-    ensures { λ r. ⌜ below (length (now (values .entry))) r
-        ≡ better (now (act .entry)) (below (length (now (values .entry))) best) i (getD (now (values .entry)) i 0) ⌝ }
+// The first unset variable; the number of variables where none is.
+fn first_unset(values: &[u32]) -> usize
+    ensures { λ r. ⌜ First (now (values .entry)) r ⌝ }
 {
-    if values[i] != 2 {
-        return best;
+    let n = values.len();
+    let mut i = 0;
+    while i < n {
+        if values[i] == 2 {
+            return i;
+        }
+        i += 1;
     }
-    if values.len() <= best {
-        return i;
+    n
+}
+
+// The best variable so far. Its activity is kept beside it: the pick looks at every variable, and this is what it compares with.
+struct Best {
+    var: usize,
+    top: f64,
+}
+
+// The better of the best so far and variable i. Few activities are above the best, so that test comes first.
+fn better<'a>(values: &'a [u32], act: &'a [f64], b: Best, i: usize) -> Best
+    requires { ⌜ length (now values) ≤ length (now act) ⌝ }
+    requires { ⌜ Leads (now act) (now values) b ⌝ }
+    requires { ⌜ i < length (now values) ⌝ }
+    ensures { λ r. ⌜ some (r .var) ≡ better (now (act .entry)) (some (b .var)) i (getD (now (values .entry)) i 0) ⌝ }
+    ensures { λ r. ⌜ Leads (now (act .entry)) (now (values .entry)) r ⌝ }
+{
+    let x = act[i];
+    if b.top < x {
+        if values[i] == 2 {
+            return Best { var: i, top: x };
+        }
     }
-    if act[best] < act[i] {
-        return i;
-    }
-    best
+    b
 }
 
 // The unset variable of greatest activity, the lowest on a tie; the number of variables where none is unset.
@@ -84,9 +104,16 @@ pub fn pick<'a>(values: &'a [u32], act: &'a [f64]) -> usize
     ensures { λ r. ⌜ below (length (now (values .entry))) r ≡ pick (now (act .entry)) none 0 (now (values .entry)) ⌝ }
 {
     let n = values.len();
-    let mut best = n;
-    for i in 0..n {
-        best = better(values, act, best, i);
+    let k = first_unset(values);
+    if k == n {
+        return k;
     }
-    best
+    let mut b = Best {
+        var: k,
+        top: act[k],
+    };
+    for i in k + 1..n {
+        b = better(values, act, b, i);
+    }
+    b.var
 }

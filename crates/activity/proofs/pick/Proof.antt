@@ -1,52 +1,91 @@
-use Prim.Native.Nat.{_-_, _≤_}
+use Prim.Native.Nat.{_-_, _≤_, _<_}
 use native.Mathlib.Omega.{arith}
-use mathlib.Core.Path.{_≡_, refl, sym, ap, _∙_}
-use mathlib.Core.Option.{none}
+use mathlib.Core.Path.{_≡_, refl, sym, _∙_}
+use mathlib.Core.Option.{none, some}
 use lib.ListN.{length, drop}
 use denote.Ref.{now}
 use Rattle.model.specs.Decide.{pick}
-use Rattle.activity.specs.Pick.{below, below-none, pick-more, pick-last}
+use Rattle.activity.specs.Pick.{below-some, pick-more, pick-last}
+use Rattle.activity.specs.Leading.{Leads, none-unset, from-first}
+use borrow.Author.Needs.{needs}
 use Rattle.activity.proofs.pick.Statement.{statement}
 use Rattle.activity.proofs.pick.Tie as tie
 
 abbrev Inv-loop : tie.InvT-loop
-Inv-loop values act n best₀ i₀ best i = (n ≡ length values) × (i ≤ n) × (pick act (below (length values) best) i (drop i values) ≡ pick act none 0 values)
+Inv-loop values act n k b₀ i₀ b i =
+    (n ≡ length values) × (i ≤ n) × Leads act values b × (pick act (some (b .var)) i (drop i values) ≡ pick act none 0 values)
 
 abbrev μ-loop : tie.MeasureT-loop
-μ-loop values act n best₀ i₀ best i = n - i
+μ-loop values act n k b₀ i₀ b i = n - i
+
+first-unset-requires : tie.Need-first-unset-requires Inv-loop μ-loop
+first-unset-requires c κs = search needs
+
+returns : tie.Need-returns Inv-loop μ-loop
+returns c =
+    let a = c .before .before .before .before .args in
+    none-unset (now (a .act)) (now (a .values)) _ (c .before .first-unset .ensures) (c .if1 .taken)
+
+mul-t8 : tie.Need-mul-t8 Inv-loop μ-loop
+mul-t8 c = search needs
+
+shared-slice-read-t10 : tie.Need-shared-slice-read-t10 Inv-loop μ-loop
+shared-slice-read-t10 c =
+    let f = c .before .before .first-unset .ensures in
+    omega (arith, f .within, c .before .before .before .before .before .pre)
+
+add-i : tie.Need-add-i Inv-loop μ-loop
+add-i c =
+    let f = c .before .before .first-unset .ensures in
+    omega (arith, f .within)
 
 loop-holds : tie.Need-loop-holds Inv-loop μ-loop
 loop-holds c =
-    let a = c .before .before .args in
-    let n = length (now (a .values)) in
-    (refl, omega arith, ap (λ o. pick (now (a .act)) o 0 (now (a .values))) (below-none n n (omega arith)))
+    let a = c .before .before .before .before .before .args in
+    let f = c .before .before .first-unset .ensures in
+    let some : c .before .before .first-unset .result < length (now (a .values)) = omega (arith, f .within) in
+    (refl, omega (arith, f .within), record { var = some; top = refl }, from-first (now (a .act)) (now (a .values)) _ f some)
 
 better-requires : tie.Need-better-requires Inv-loop μ-loop
-better-requires c κs = (c .before .before .before .before .pre, omega arith)
+better-requires c κs =
+    let l = c .before .loop in
+    (c .before .before .before .before .before .before .before .pre, (l .inv .2, omega arith))
 
-add-i : tie.Need-add-i Inv-loop μ-loop
-add-i c = omega arith
+add-i-2 : tie.Need-add-i-2 Inv-loop μ-loop
+add-i-2 c = omega arith
 
 loop-less : tie.Need-loop-less Inv-loop μ-loop
 loop-less c = omega arith
 
 loop-again : tie.Need-loop-again Inv-loop μ-loop
 loop-again c =
-    let a = c .before .before .before .before .before .args in
+    let a = c .before .before .before .before .before .before .before .before .args in
     let l = c .before .before .loop in
-    let n = length (now (a .values)) in (
-      l .inv .0,
-      omega arith,
-      pick-more (now (a .act)) (now (a .values)) (below n (l .best)) (below n (c .better .result)) (l .i) (omega arith) (c .better .ensures) ∙ l .inv .2,
-    )
+    let e = c .better .ensures in
+    (l .inv .0, omega arith, e .1, pick-more (now (a .act)) (now (a .values)) _ _ (l .i) (omega arith) (e .0) ∙ l .inv .3)
 
-returns : tie.Need-returns Inv-loop μ-loop
-returns c =
+returns-2 : tie.Need-returns-2 Inv-loop μ-loop
+returns-2 c =
     let l = c .before .loop in
-    let a = c .before .before .before .before .args in
-    sym (pick-last (now (a .act)) (now (a .values)) (below (length (now (a .values))) (l .best)) (l .i) (omega arith)) ∙ l .inv .2
+    let a = c .before .before .before .before .before .before .before .args in
+    below-some (length (now (a .values))) (l .b .var) (l .inv .2 .var)
+    ∙ sym (pick-last (now (a .act)) (now (a .values)) (some (l .b .var)) (l .i) (omega arith))
+    ∙ l .inv .3
 
 pub pick-spec : {M : Type 1} → statement M
 pick-spec =
     tie.close
-    (tie.spec Inv-loop μ-loop loop-holds better-requires add-i loop-less loop-again returns)
+    (tie.spec
+    Inv-loop
+    μ-loop
+    first-unset-requires
+    returns
+    mul-t8
+    shared-slice-read-t10
+    add-i
+    loop-holds
+    better-requires
+    add-i-2
+    loop-less
+    loop-again
+    returns-2)

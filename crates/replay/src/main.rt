@@ -2,23 +2,32 @@
 //
 // Standard input is made of lines. `group` and a title opens a group. Every other line is a script: a name, then numbers with one blank between them: the
 // lengths of work, activities and out; the number and the place of the refusal, or 0 and 0; how many cells the script has; these cells; the out cells.
+ghost use mathlib.Core.Path.{_≡_};
+ghost use mathlib.Core.List.{_++_};
 ghost use Prim.Native.Nat.{_≤_};
-ghost use lib.ListN.{length};
+ghost use lib.ListN.{length, drop, replicate};
+ghost use Rattle.replay.specs.Cells.{noise, noise-cells, noise-floats, cell-behind, cell-clear, float, like, same, same-floats};
 use engine::Answer;
 
 // ---- noise: never 0, and never the same in two cells next to each other
 
-fn noise(i: usize) -> u32 {
+fn noise(i: usize) -> u32
+    ensures { λ r. ⌜ r ≡ noise i ⌝ }
+{
     (i % 65521) as u32 * 65537 + 7
 }
 
-fn fill(s: &mut [u32]) {
+fn fill(s: &mut [u32])
+    ensures { λ _. ⌜ now (s .exit) ≡ noise-cells (length (now (s .entry))) ⌝ }
+{
     for i in 0..s.len() {
         s[i] = noise(i);
     }
 }
 
-fn fill_floats(s: &mut [f64]) {
+fn fill_floats(s: &mut [f64])
+    ensures { λ _. ⌜ now (s .exit) ≡ noise-floats (length (now (s .entry))) ⌝ }
+{
     for i in 0..s.len() {
         s[i] = noise(i) as f64;
     }
@@ -27,14 +36,18 @@ fn fill_floats(s: &mut [f64]) {
 // ---- comparing
 
 // Cell i of a slice that begins with these cells, and is noise behind them.
-fn cell_behind(first: &[u32], i: usize) -> u32 {
+fn cell_behind(first: &[u32], i: usize) -> u32
+    ensures { λ r. ⌜ r ≡ cell-behind (now (first .entry)) i ⌝ }
+{
     if i < first.len() {
         return first[i];
     }
     noise(i)
 }
 
-fn is_out(s: &[u32], first: &[u32]) -> bool {
+fn is_out(s: &[u32], first: &[u32]) -> bool
+    ensures { λ r. ⌜ r ≡ same (now (s .entry)) (now (first .entry) ++ drop (length (now (first .entry))) (noise-cells (length (now (s .entry))))) ⌝ }
+{
     for i in 0..s.len() {
         if s[i] != cell_behind(first, i) {
             return false;
@@ -44,14 +57,18 @@ fn is_out(s: &[u32], first: &[u32]) -> bool {
 }
 
 // Cell i of a slice whose first n cells are 0.
-fn cell_clear(n: usize, i: usize) -> u32 {
+fn cell_clear(n: usize, i: usize) -> u32
+    ensures { λ r. ⌜ r ≡ cell-clear n i ⌝ }
+{
     if i < n {
         return 0;
     }
     noise(i)
 }
 
-fn is_clear(s: &[u32], n: usize) -> bool {
+fn is_clear(s: &[u32], n: usize) -> bool
+    ensures { λ r. ⌜ r ≡ same (now (s .entry)) (replicate n 0 ++ drop n (noise-cells (length (now (s .entry))))) ⌝ }
+{
     for i in 0..s.len() {
         if s[i] != cell_clear(n, i) {
             return false;
@@ -61,7 +78,9 @@ fn is_clear(s: &[u32], n: usize) -> bool {
 }
 
 // Bit by bit; a NaN is like nothing.
-fn is_like(x: f64, y: f64) -> bool {
+fn is_like(x: f64, y: f64) -> bool
+    ensures { λ r. ⌜ r ≡ like x y ⌝ }
+{
     if x == x {
         if y == y {
             return f64::to_bits(x) == f64::to_bits(y);
@@ -70,7 +89,9 @@ fn is_like(x: f64, y: f64) -> bool {
     false
 }
 
-fn is_clear_floats(s: &[f64], n: usize) -> bool {
+fn is_clear_floats(s: &[f64], n: usize) -> bool
+    ensures { λ r. ⌜ r ≡ same-floats (now (s .entry)) (replicate n (float 0) ++ drop n (noise-floats (length (now (s .entry))))) ⌝ }
+{
     for i in 0..s.len() {
         if !is_like(s[i], cell_clear(n, i) as f64) {
             return false;

@@ -3,6 +3,8 @@ use mathlib.Core.Bool.{true, not}
 use lib.Dec.{T}
 use lib.Ieee.{Float, nan, inf, fin, eq, isNan}
 use borrow.Author.Needs.{needs}
+use Rattle.replay.specs.Cells.{like}
+use Rattle.replay.specs.CellLaws.{like-numbers, like-other, like-nan}
 use Rattle.replay.proofs.is_like.Statement.{statement}
 use Rattle.replay.proofs.is_like.Tie as tie
 
@@ -20,13 +22,13 @@ float-to-bits-result-2 : tie.Need-float-to-bits-result-2
 float-to-bits-result-2 c = no-nan (c .before .before .args .y) (c .if2 .taken)
 
 returns : tie.Need-returns
-returns c = search needs
+returns c = like-numbers (c .before .before .args .x) (c .before .before .args .y) (c .before .if1 .taken) (c .if2 .taken)
 
 returns-2 : tie.Need-returns-2
-returns-2 c = search needs
+returns-2 c = like-other (c .before .before .args .x) (c .before .before .args .y) (c .if2 .left)
 
 returns-3 : tie.Need-returns-3
-returns-3 c = search needs
+returns-3 c = like-nan (c .before .args .x) (c .before .args .y) (c .if1 .left)
 
 pub is-like-spec : {M : Type 1} → statement M
 is-like-spec =

@@ -4,8 +4,12 @@
 // lengths of work, activities and out; the number and the place of the refusal, or 0 and 0; how many cells the script has; these cells; the out cells.
 ghost use mathlib.Core.Path.{_≡_};
 ghost use mathlib.Core.List.{_++_};
-ghost use Prim.Native.Nat.{_≤_};
-ghost use lib.ListN.{length, drop, replicate};
+ghost use Prim.Native.Nat.{_+_, _≤_};
+ghost use lib.ListN.{length, take, drop, replicate};
+ghost use Rattle.text.specs.Split.{before};
+ghost use Rattle.replay.specs.LineLaws.{Grouped};
+ghost use Rattle.replay.specs.Lines.{line-numbers, line-holds, one, added};
+ghost use Rattle.replay.specs.Vector.{is-run, untouched, passes, vector-holds};
 ghost use Rattle.replay.specs.Cells.{noise, noise-cells, noise-floats, cell-behind, cell-clear, float, like, same, same-floats};
 use engine::Answer;
 
@@ -102,11 +106,15 @@ fn is_clear_floats(s: &[f64], n: usize) -> bool
 
 // ---- a script
 
-fn wide(x: u32) -> usize {
+fn wide(x: u32) -> usize
+    ensures { λ r. ⌜ r ≡ x ⌝ }
+{
     x as usize
 }
 
-fn wider(x: u32) -> u64 {
+fn wider(x: u32) -> u64
+    ensures { λ r. ⌜ r ≡ x ⌝ }
+{
     x as u64
 }
 
@@ -118,7 +126,9 @@ fn is_run(
     work: &[u32],
     activities: &[f64],
     out: &[u32],
-) -> bool {
+) -> bool
+    ensures { λ r. ⌜ r ≡ is-run (now (script .entry)) (now (want .entry)) n (now (work .entry)) (now (activities .entry)) (now (out .entry)) ⌝ }
+{
     if n != want.len() as u64 {
         return false;
     }
@@ -136,7 +146,9 @@ fn is_run(
 }
 
 // Whether the slices are as they were.
-fn is_untouched(work: &[u32], activities: &[f64], out: &[u32]) -> bool {
+fn is_untouched(work: &[u32], activities: &[f64], out: &[u32]) -> bool
+    ensures { λ r. ⌜ r ≡ untouched (now (work .entry)) (now (activities .entry)) (now (out .entry)) ⌝ }
+{
     if !is_clear(work, 0) {
         return false;
     }
@@ -155,7 +167,9 @@ fn gives(
     work: &mut [u32],
     activities: &mut [f64],
     out: &mut [u32],
-) -> bool {
+) -> bool
+    ensures { λ r. ⌜ r ≡ passes (now (script .entry)) refusal «refused_at» (now (want .entry)) (length (now (work .entry))) (length (now (activities .entry))) (length (now (out .entry))) ⌝ }
+{
     fill(work);
     fill_floats(activities);
     fill(out);
@@ -179,7 +193,9 @@ fn gives(
 }
 
 // Whether the numbers of a line hold; false if they ask for more than there is.
-fn holds(numbers: &[u32], work: &mut [u32], activities: &mut [f64], out: &mut [u32]) -> bool {
+fn holds(numbers: &[u32], work: &mut [u32], activities: &mut [f64], out: &mut [u32]) -> bool
+    ensures { λ r. ⌜ r ≡ vector-holds (now (numbers .entry)) (length (now (work .entry))) (length (now (activities .entry))) (length (now (out .entry))) ⌝ }
+{
     if numbers.len() < 6 {
         return false;
     }
@@ -216,14 +232,14 @@ fn holds(numbers: &[u32], work: &mut [u32], activities: &mut [f64], out: &mut [u
 // The place of the first byte `sought` from a place on, or the end.
 fn end_of(s: &[u8], from: usize, sought: u8) -> usize
     requires { ⌜ from ≤ length (now s) ⌝ }
-    ensures { λ r. ⌜ (from ≤ r) × (r ≤ length (now (s .entry))) ⌝ }
+    ensures { λ r. ⌜ (from ≤ r) × (r ≤ length (now (s .entry))) × (r ≡ from + length (before sought (drop from (now (s .entry))))) ⌝ }
 {
     text::find(s, from, sought)
 }
 
 // Stores the numbers behind the name of a line; none if a word is no number, or they do not fit.
 fn numbers(line: &[u8], cells: &mut [u32]) -> usize
-    ensures { λ r. ⌜ r ≤ length (now (cells .exit)) ⌝ }
+    ensures { λ r. ⌜ (r ≤ length (now (cells .exit))) × (take r (now (cells .exit)) ≡ line-numbers (length (now (cells .entry))) (now (line .entry))) ⌝ }
 {
     let mut i = end_of(line, 0, 32) + 1;
     let mut k: usize = 0;
@@ -248,7 +264,9 @@ struct Tally {
     failed: u64,
 }
 
-fn sum(a: Tally, b: Tally) -> Tally {
+fn sum(a: Tally, b: Tally) -> Tally
+    ensures { λ r. ⌜ r ≡ added a b ⌝ }
+{
     Tally {
         passed: std::num::wrapping_add_u64(a.passed, b.passed),
         failed: std::num::wrapping_add_u64(a.failed, b.failed),
@@ -278,7 +296,9 @@ fn script(
     work: &mut [u32],
     activities: &mut [f64],
     out: &mut [u32],
-) -> Tally {
+) -> Tally
+    ensures { λ r. ⌜ r ≡ one (line-holds (length (now (cells .entry))) (length (now (work .entry))) (length (now (activities .entry))) (length (now (out .entry))) (now (line .entry))) ⌝ }
+{
     let n = numbers(line, cells);
     if holds(&cells[..n], work, activities, out) {
         return Tally {
@@ -308,7 +328,7 @@ fn group(
     activities: &mut [f64],
     out: &mut [u32],
 ) -> Counted
-    ensures { λ r. ⌜ from ≤ r .end ⌝ }
+    ensures { λ r. ⌜ (from ≤ r .end) × Grouped (line-holds (length (now (cells .entry))) (length (now (work .entry))) (length (now (activities .entry))) (length (now (out .entry)))) (now (input .entry)) from (r .end) (r .tally) ⌝ }
 {
     let mut t = Tally {
         passed: 0,

@@ -1,6 +1,9 @@
 use Prim.Native.Nat.{_-_, _≤_}
-use mathlib.Core.Path.{_≡_}
-use lib.ListN.{length}
+use mathlib.Core.Path.{_≡_, refl, sym, _∙_}
+use native.Mathlib.Omega.{arith}
+use lib.ListN.{length, take, drop}
+use Rattle.replay.specs.Lines.{line-holds}
+use Rattle.replay.specs.LineLaws.{Counting, line-as, counting-start, counting-title, counting-line, counting-end}
 use borrow.Author.Needs.{needs}
 use Rattle.replay.proofs.group.Statement.{statement}
 use Rattle.replay.proofs.group.Tie as tie
@@ -8,12 +11,16 @@ use Rattle.replay.proofs.group.Tie as tie
 abbrev Inv-loop : tie.InvT-loop
 Inv-loop input from cells₀ work₀ activities₀ out₀ t₀ at₀ t10 cells work activities out t at =
     (from ≤ at) × (length cells ≡ length cells₀) × (length work ≡ length work₀) × (length activities ≡ length activities₀) × (length out ≡ length out₀)
+    × Counting (line-holds (length cells₀) (length work₀) (length activities₀) (length out₀)) input from at t
 
 abbrev μ-loop : tie.MeasureT-loop
 μ-loop input from cells₀ work₀ activities₀ out₀ t₀ at₀ t10 cells work activities out t at = length input - at
 
 loop-holds : tie.Need-loop-holds Inv-loop μ-loop
-loop-holds c = search needs
+loop-holds c =
+    let a = c .before .before .before .before .before .args in
+    let test = line-holds (length (a .cells .now)) (length (a .work .now)) (length (a .activities .now)) (length (a .out .now)) in
+    (search needs, refl, refl, refl, refl, counting-start test (a .input .now) (a .from))
 
 end-of-requires : tie.Need-end-of-requires Inv-loop μ-loop
 end-of-requires c κs = search needs
@@ -46,7 +53,11 @@ same-length-4 : tie.Need-same-length-4 Inv-loop μ-loop
 same-length-4 c = search needs
 
 returns : tie.Need-returns Inv-loop μ-loop
-returns c = search needs
+returns c =
+    let a = c .before .before .before .before .before .before .before .before .before .before .before .before .args in
+    let l = c .before .before .before .before .before .before .loop in
+    let test = line-holds (length (a .cells .now)) (length (a .work .now)) (length (a .activities .now)) (length (a .out .now)) in
+    (omega arith, counting-title test (a .input .now) (a .from) (l .at) (l .t) (l .inv .5) (c .before .before .before .before .end-of .result) (omega arith) (c .before .before .before .before .end-of .ensures .2) (sym (c .before .starts .ensures) ∙ c .if1 .taken))
 
 sub-script : tie.Need-sub-script Inv-loop μ-loop
 sub-script c = search needs
@@ -70,7 +81,19 @@ loop-less : tie.Need-loop-less Inv-loop μ-loop
 loop-less c = search needs
 
 loop-again : tie.Need-loop-again Inv-loop μ-loop
-loop-again c = search needs
+loop-again c =
+    let a = c .before .before .before .before .before .before .before .before .before .before .before .before .before .before .before .before .before .before .before .before .before .before .before .before .before .before .before .args in
+    let l = c .before .before .before .before .before .before .before .before .before .before .before .before .before .before .before .before .before .before .before .before .before .loop in
+    let test = line-holds (length (a .cells .now)) (length (a .work .now)) (length (a .activities .now)) (length (a .out .now)) in
+    let line = take (c .before .before .before .before .before .before .before .before .before .before .before .before .before .before .before .before .before .before .before .end-of .result - l .at) (drop (l .at) (a .input .now)) in (
+      search needs,
+      search needs,
+      search needs,
+      search needs,
+      search needs,
+      counting-line test (a .input .now) (a .from) (l .at) (l .t) (l .inv .5) (c .before .before .before .before .before .before .before .before .before .before .before .before .before .before .before .before .before .before .before .end-of .result) (omega arith) (c .before .before .before .before .before .before .before .before .before .before .before .before .before .before .before .before .before .before .before .end-of .ensures .2) (sym (c .before .before .before .before .before .before .before .before .before .before .before .before .before .before .before .before .starts .ensures) ∙ c .before .before .before .before .before .before .before .before .before .before .before .before .before .before .before .if1 .left) (c .before .before .before .before .before .before .before .before .before .before .before .before .before .before .before .before .before .before .before .before .before .before .before .before .before .before .before .good .0 .0)
+          (c .before .before .before .before .before .before .before .before .before .script .result) (c .sum .result) (c .before .before .before .before .before .before .before .before .before .script .ensures ∙ line-as line (l .inv .1) (l .inv .2) (l .inv .3) (l .inv .4)) (c .sum .ensures),
+    )
 
 same-length-5 : tie.Need-same-length-5 Inv-loop μ-loop
 same-length-5 c = search needs
@@ -85,7 +108,11 @@ same-length-8 : tie.Need-same-length-8 Inv-loop μ-loop
 same-length-8 c = search needs
 
 returns-2 : tie.Need-returns-2 Inv-loop μ-loop
-returns-2 c = search needs
+returns-2 c =
+    let a = c .before .before .before .before .before .before .before .args in
+    let l = c .before .loop in
+    let test = line-holds (length (a .cells .now)) (length (a .work .now)) (length (a .activities .now)) (length (a .out .now)) in
+    (omega arith, counting-end test (a .input .now) (a .from) (l .at) (l .t) (l .inv .5) (omega arith))
 
 pub group-spec : {M : Type 1} → statement M
 group-spec =

@@ -1,12 +1,16 @@
+use lib.ListN.{length}
+use Rattle.replay.specs.VectorLaws.{holds-short, holds-work, holds-activities, holds-out, holds-cells, holds-gives}
 use native.Mathlib.Omega.{arith}
-use mathlib.Core.Path.{sym}
+use mathlib.Core.Path.{sym, _∙_}
 use lib.Seq.{length-take-le}
 use borrow.Author.Needs.{needs}
 use Rattle.replay.proofs.holds.Statement.{statement}
 use Rattle.replay.proofs.holds.Tie as tie
 
 returns : tie.Need-returns
-returns c = search needs
+returns c =
+    let a = c .before .before .before .before .before .args in
+    holds-short (a .numbers .now) (length (a .work .now)) (length (a .activities .now)) (length (a .out .now)) (omega arith)
 
 shared-slice-read-wide : tie.Need-shared-slice-read-wide
 shared-slice-read-wide c = search needs
@@ -33,19 +37,27 @@ wide-requires-4 : tie.Need-wide-requires-4
 wide-requires-4 c κs = search needs
 
 returns-2 : tie.Need-returns-2
-returns-2 c = search needs
+returns-2 c =
+    let a = c .before .before .before .before .before .before .before .before .before .before .before .before .before .before .args in
+    holds-work (a .numbers .now) (length (a .work .now)) (length (a .activities .now)) (length (a .out .now)) (omega arith) (omega arith)
 
 returns-3 : tie.Need-returns-3
-returns-3 c = search needs
+returns-3 c =
+    let a = c .before .before .before .before .before .before .before .before .before .before .before .before .before .before .before .args in
+    holds-activities (a .numbers .now) (length (a .work .now)) (length (a .activities .now)) (length (a .out .now)) (omega arith) (omega arith) (omega arith)
 
 returns-4 : tie.Need-returns-4
-returns-4 c = search needs
+returns-4 c =
+    let a = c .before .before .before .before .before .before .before .before .before .before .before .before .before .before .before .before .args in
+    holds-out (a .numbers .now) (length (a .work .now)) (length (a .activities .now)) (length (a .out .now)) (omega arith) (omega arith) (omega arith) (omega arith)
 
 sub-if5 : tie.Need-sub-if5
 sub-if5 c = search needs
 
 returns-5 : tie.Need-returns-5
-returns-5 c = search needs
+returns-5 c =
+    let a = c .before .before .before .before .before .before .before .before .before .before .before .before .before .before .before .before .before .args in
+    holds-cells (a .numbers .now) (length (a .work .now)) (length (a .activities .now)) (length (a .out .now)) (omega arith) (omega arith) (omega arith) (omega arith) (omega arith)
 
 add-end : tie.Need-add-end
 add-end c = search needs
@@ -108,7 +120,17 @@ same-length-3 : tie.Need-same-length-3
 same-length-3 c = search needs
 
 returns-6 : tie.Need-returns-6
-returns-6 c = search needs
+returns-6 c =
+    let a = c .before .before .before .before .before .before .before .before .before .before .before .before .before .before .before .before .before .before .before .before .before .before .before .before .before .before .before .before .before .before .before .args in
+    let nw = c .before .before .before .before .before .before .before .before .before .before .before .before .before .before .before .before .before .before .before .before .before .before .before .before .wide in
+    let na = c .before .before .before .before .before .before .before .before .before .before .before .before .before .before .before .before .before .before .before .before .before .before .wide2 in
+    let no = c .before .before .before .before .before .before .before .before .before .before .before .before .before .before .before .before .before .before .before .before .wide3 in
+    let nc = c .before .before .before .before .before .before .before .before .before .before .before .before .before .before .before .before .before .before .wide4 in
+    holds-gives (a .numbers .now) (length (a .work .now)) (length (a .activities .now)) (length (a .out .now)) (omega arith) (omega arith) (omega arith) (omega arith) (nc .result) _ _ _ (nc .ensures)
+    (length-take-le (nw .result) (a .work .now) (omega arith) ∙ nw .ensures)
+    (length-take-le (na .result) (a .activities .now) (omega arith) ∙ na .ensures)
+    (length-take-le (no .result) (a .out .now) (omega arith) ∙ no .ensures)
+    (omega arith) (c .before .before .before .before .before .before .gives .result) (c .before .before .before .before .before .before .gives .ensures)
 
 pub holds-spec : {M : Type 1} → statement M
 holds-spec =

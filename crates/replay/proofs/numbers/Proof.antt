@@ -1,14 +1,18 @@
 use native.Mathlib.Omega.{arith}
-use lib.ListN.{length-set}
 use Prim.Native.Nat.{_+_, _-_, _≤_}
-use mathlib.Core.Path.{_≡_}
-use lib.ListN.{length}
+use mathlib.Core.Path.{_≡_, refl, sym, _∙_}
+use lib.ListN.{length, take, length-set}
+use lib.Seq.{length-take-le}
+use Rattle.text.specs.SplitLaws.{words-from}
+use Rattle.replay.specs.Lines.{read-on, line-numbers}
+use Rattle.replay.specs.LineLaws.{numbers-start, numbers-bad, numbers-full, numbers-more, numbers-end}
 use borrow.Author.Needs.{needs}
 use Rattle.replay.proofs.numbers.Statement.{statement}
 use Rattle.replay.proofs.numbers.Tie as tie
 
 abbrev Inv-loop : tie.InvT-loop
-Inv-loop line cells₀ i₀ k₀ cells i k = (i ≤ length line + 1) × (k ≤ length cells) × (length cells ≡ length cells₀)
+Inv-loop line cells₀ i₀ k₀ cells i k =
+    (i ≤ length line + 1) × (k ≤ length cells) × (length cells ≡ length cells₀) × (read-on (length cells₀) (take k cells) (words-from line i) ≡ line-numbers (length cells₀) line)
 
 abbrev μ-loop : tie.MeasureT-loop
 μ-loop line cells₀ i₀ k₀ cells i k = length line + 1 - i
@@ -20,7 +24,9 @@ add-i : tie.Need-add-i Inv-loop μ-loop
 add-i c = search needs
 
 loop-holds : tie.Need-loop-holds Inv-loop μ-loop
-loop-holds c = search needs
+loop-holds c =
+    let a = c .before .before .before .args in
+    (omega arith, omega arith, refl, numbers-start (a .line .now) (length (a .cells .now)) (c .end-of .result) (c .end-of .ensures .2))
 
 end-of-requires-2 : tie.Need-end-of-requires-2 Inv-loop μ-loop
 end-of-requires-2 c κs = search needs
@@ -47,13 +53,22 @@ same-length : tie.Need-same-length Inv-loop μ-loop
 same-length c = search needs
 
 returns : tie.Need-returns Inv-loop μ-loop
-returns c = search needs
+returns c =
+    let a = c .before .before .before .before .before .before .before .before .before .before .args in
+    let l = c .before .before .before .before .before .before .loop in
+    let e = c .before .before .before .before .end-of2 in
+    (omega arith, numbers-bad (a .line .now) (l .i) (e .result) (omega arith) (e .ensures .2) (length (a .cells .now)) (take (l .k) (l .cells)) (sym (c .before .before .decimal .ensures) ∙ c .enum-told .given .1) ∙ l .inv .3)
 
 same-length-2 : tie.Need-same-length-2 Inv-loop μ-loop
 same-length-2 c = search needs
 
 returns-2 : tie.Need-returns-2 Inv-loop μ-loop
-returns-2 c = search needs
+returns-2 c =
+    let a = c .before .before .before .before .before .before .before .before .before .before .before .before .args in
+    let l = c .before .before .before .before .before .before .before .before .loop in
+    let e = c .before .before .before .before .before .before .end-of2 in
+    let n : length (take (l .k) (l .cells)) ≡ l .k = length-take-le (l .k) (l .cells) (l .inv .1) in
+    (omega arith, numbers-full (a .line .now) (l .i) (e .result) (omega arith) (e .ensures .2) (length (a .cells .now)) (take (l .k) (l .cells)) _ (sym (c .before .before .before .before .decimal .ensures) ∙ c .before .before .x .given .1) (omega (arith, n)) ∙ l .inv .3)
 
 mul-cells : tie.Need-mul-cells Inv-loop μ-loop
 mul-cells c = search needs
@@ -71,13 +86,25 @@ loop-less : tie.Need-loop-less Inv-loop μ-loop
 loop-less c = search needs
 
 loop-again : tie.Need-loop-again Inv-loop μ-loop
-loop-again c = (search needs, simp length-set (omega arith), simp length-set (omega arith))
+loop-again c =
+    let a = c .before .before .before .before .before .before .before .before .before .before .before .before .args in
+    let l = c .before .before .before .before .before .before .before .before .loop in
+    let e = c .before .before .before .before .before .before .end-of2 in
+    let n : length (take (l .k) (l .cells)) ≡ l .k = length-take-le (l .k) (l .cells) (l .inv .1) in (
+      search needs,
+      simp length-set (omega arith),
+      simp length-set (omega arith),
+      numbers-more (a .line .now) (l .i) (e .result) (omega arith) (e .ensures .2) (length (a .cells .now)) (take (l .k) (l .cells)) _ (sym (c .before .before .before .before .decimal .ensures) ∙ c .before .before .x .given .1) (omega (arith, n)) (l .k) (l .cells) (omega arith) refl ∙ l .inv .3,
+    )
 
 same-length-3 : tie.Need-same-length-3 Inv-loop μ-loop
 same-length-3 c = search needs
 
 returns-3 : tie.Need-returns-3 Inv-loop μ-loop
-returns-3 c = search needs
+returns-3 c =
+    let a = c .before .before .before .before .before .args in
+    let l = c .before .loop in
+    (l .inv .1, numbers-end (a .line .now) (l .i) (length (a .cells .now)) (take (l .k) (l .cells)) (omega arith) ∙ l .inv .3)
 
 pub numbers-spec : {M : Type 1} → statement M
 numbers-spec =

@@ -1,3 +1,6 @@
+use lib.ListN.{length, take}
+use Rattle.replay.specs.Lines.{line-holds}
+use Rattle.replay.specs.LineLaws.{one-held, one-failed, holds-line}
 use native.Mathlib.Omega.{arith}
 use mathlib.Core.Path.{sym}
 use lib.Seq.{length-take-le}
@@ -30,7 +33,12 @@ same-length-4 : tie.Need-same-length-4
 same-length-4 c = search needs
 
 returns : tie.Need-returns
-returns c = search needs
+returns c =
+    let a = c .before .before .before .before .before .before .before .before .before .before .before .before .before .before .before .before .before .before .before .before .before .args in
+    let u = c .before .before .before .before .before .before .before .holds in
+    let n = c .before .before .before .before .before .before .before .before .before .before .before .before .before .before .numbers in
+    let lh = line-holds (length (a .cells .now)) (length (a .work .now)) (length (a .activities .now)) (length (a .out .now)) (a .line .now) in
+    one-held (u .result) lh (holds-line (length (a .cells .now)) (length (a .work .now)) (length (a .activities .now)) (length (a .out .now)) (a .line .now) _ (u .result) (u .ensures) (n .ensures .1)) (c .if1 .taken)
 
 show-failed-requires : tie.Need-show-failed-requires
 show-failed-requires c κs = search needs
@@ -48,7 +56,12 @@ same-length-8 : tie.Need-same-length-8
 same-length-8 c = search needs
 
 returns-2 : tie.Need-returns-2
-returns-2 c = search needs
+returns-2 c =
+    let a = c .before .before .before .before .before .before .before .before .before .before .before .before .before .before .before .before .before .before .before .before .before .before .args in
+    let u = c .before .before .before .before .before .before .before .before .holds in
+    let n = c .before .before .before .before .before .before .before .before .before .before .before .before .before .before .before .numbers in
+    let lh = line-holds (length (a .cells .now)) (length (a .work .now)) (length (a .activities .now)) (length (a .out .now)) (a .line .now) in
+    one-failed (u .result) lh (holds-line (length (a .cells .now)) (length (a .work .now)) (length (a .activities .now)) (length (a .out .now)) (a .line .now) _ (u .result) (u .ensures) (n .ensures .1)) (c .before .if1 .left)
 
 pub script-spec : {M : Type 1} → statement M
 script-spec =

@@ -77,8 +77,9 @@ pub holds-line : (room work activities out : ℕ) (line xs : List ℕ) (b : Bool
 unfolding line-holds
 holds-line room work activities out line xs b e f = e ∙ ap (λ (ys : List ℕ). vector-holds ys work activities out) f
 
-pub line-as : {r r′ w w′ a a′ o o′ : ℕ} (line : List ℕ) → r ≡ r′ → w ≡ w′ → a ≡ a′ → o ≡ o′ → one (line-holds r w a o line) ≡ one (line-holds r′ w′ a′ o′ line)
-line-as line er ew ea eo = rw (er, ew, ea, eo)
+pub line-as : {r r′ w w′ a a′ o o′ : ℕ} (line : List ℕ) (u : Tally) → u ≡ one (line-holds r w a o line) → r ≡ r′ → w ≡ w′ → a ≡ a′ → o ≡ o′
+    → u ≡ one (line-holds r′ w′ a′ o′ line)
+line-as line u e er ew ea eo = rw (er, ew, ea, eo) at e
 
 pub sum-is : (a b : Tally) (p f : ℕ) → p ≡ (a .passed + b .passed) % 2 ^ 64 → f ≡ (a .failed + b .failed) % 2 ^ 64 → record { passed = p; failed = f } ≡ added a b
 sum-is a b p f e g = rw (e, g)

@@ -153,7 +153,7 @@ pub over-noise : {s w : List ℕ} {a : List Float} {o : List ℕ} {r : engine.An
     → Runs s (noise-cells work) (noise-floats activities) (noise-cells out) r w′ a′ o′
 over-noise work activities out k ew ea eo = rw (ew, ea, eo) at k
 
-made : (y : After) (x : Answer) (w : List ℕ) (a : List Float) (o : List ℕ) → x ≡ y .answer → w ≡ y .work → a ≡ y .activities → o ≡ y .out
+pub made : (y : After) (x : Answer) (w : List ℕ) (a : List Float) (o : List ℕ) → x ≡ y .answer → w ≡ y .work → a ≡ y .activities → o ≡ y .out
     → y ≡ record { answer = x; work = w; activities = a; out = o }
 made y x w a o p q r t = rw (p, q, r, t)
 

@@ -92,7 +92,7 @@ loop-again c =
       search needs,
       search needs,
       counting-line test (a .input .now) (a .from) (l .at) (l .t) (l .inv .5) (c .before .before .before .before .before .before .before .before .before .before .before .before .before .before .before .before .before .before .before .end-of .result) (omega arith) (c .before .before .before .before .before .before .before .before .before .before .before .before .before .before .before .before .before .before .before .end-of .ensures .2) (sym (c .before .before .before .before .before .before .before .before .before .before .before .before .before .before .before .before .starts .ensures) ∙ c .before .before .before .before .before .before .before .before .before .before .before .before .before .before .before .if1 .left) (c .before .before .before .before .before .before .before .before .before .before .before .before .before .before .before .before .before .before .before .before .before .before .before .before .before .before .before .good .0 .0)
-          (c .before .before .before .before .before .before .before .before .before .script .result) (c .sum .result) (c .before .before .before .before .before .before .before .before .before .script .ensures ∙ line-as line (l .inv .1) (l .inv .2) (l .inv .3) (l .inv .4)) (c .sum .ensures),
+          (c .before .before .before .before .before .before .before .before .before .script .result) (c .sum .result) (line-as line (c .before .before .before .before .before .before .before .before .before .script .result) (c .before .before .before .before .before .before .before .before .before .script .ensures) (l .inv .1) (l .inv .2) (l .inv .3) (l .inv .4)) (c .sum .ensures),
     )
 
 same-length-5 : tie.Need-same-length-5 Inv-loop μ-loop

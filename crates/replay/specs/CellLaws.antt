@@ -1,17 +1,29 @@
 -- Slices filled with noise, and compared.
-use Prim.Native.Nat.{ℕ, zero, suc, _+_, _-_, _≤_, _<_}
+use Prim.Native.Nat.{ℕ, zero, suc, _+_, _-_, _/_, _≤_, _<_}
 use mathlib.Core.Path.{_≡_, refl, sym, ap, _∙_}
 use mathlib.Core.Bool.{Bool, true, false, _&&_, and-false}
 use mathlib.Core.List.{List, [], _∷_, _++_}
 use native.Mathlib.Omega.{arith}
 use native.Mathlib.Decide.{decLt}
 use native.Mathlib.Numerals.{add-one}
-use lib.ListN.{length, getD, drop, set, replicate, length-append, length-drop, length-set, length-replicate, getD-replicate, drop-of-length-le, List·getD-append}
-use lib.Seq.{drop-cons, drop-length, getD-append-add, getD-drop, getD-set-same, getD-set-other, ext-getD}
-use lib.Dec.{eqb, leb, ltb}
-use lib.Ieee.{Float, binary64, eq, nan, ofInt, ofBits, ofFields, round, odd, toBits}
-use borrow.Author.Tests.{lt-ltb, le-ltb, le-leb, lt-leb, eq-eqb, ne-eqb, eqb-true}
-use Rattle.replay.specs.Cells.{cells-from, noise, noise-cells, noise-floats, float, cell-behind, cell-clear, like, all-by, same, same-floats}
+use lib.ListN.{length, getD, drop, set, replicate, length-append, length-drop, length-replicate, getD-replicate, drop-of-length-le, List·getD-append}
+use lib.Seq.{drop-cons, getD-append-add, getD-drop, getD-set-same, getD-set-other, ext-getD}
+use lib.Dec.{eqb, leb}
+use lib.Ieee.{Float, binary64, eq, nan, toBits}
+use borrow.Author.Tests.{lt-ltb, le-ltb, le-leb, lt-leb}
+use Rattle.replay.specs.Cells.{cells-from, noise, noise-cells, noise-floats, float, cell-behind, cell-clear, like, all-by}
+
+-- ---- noise is seen: it is never 0, and no two cells next to each other hold the same
+
+pub noise-some : (i : ℕ) → noise i ≡ 0 → ⊥
+noise-some i e = omega arith
+
+pub noise-turns : (i : ℕ) → noise i ≡ noise (i + 1) → ⊥
+noise-turns i e = go (decLt (i / 65521) ((i + 1) / 65521))
+  where
+    go : Dec (i / 65521 < (i + 1) / 65521) → ⊥
+    go (yes h) = omega arith
+    go (no h) = omega arith
 
 -- ---- cells by their places
 

@@ -10,15 +10,8 @@ use lib.Ieee.{Float, Format, nan, inf, fin, binary64, eq, isNan, fits, toBits, o
 use lib.Ieee.Bits.{ofBits-toBits}
 use lib.Ieee.Fits.{ofInt-fits}
 use borrow.Author.Tests.{eq-eqb, eqb-true}
+use Rattle.script.specs.Sound.{and-left, and-right}
 use Rattle.replay.specs.Cells.{cells-from, noise-floats, float, like, all-by, same, same-floats}
-
-pub and-left : (a b : Bool) → (a && b) ≡ true → a ≡ true
-and-left true b e = refl
-and-left false b e = e
-
-pub and-right : (a b : Bool) → (a && b) ≡ true → b ≡ true
-and-right true b e = e
-and-right false b e = absurd (subst T (sym e) tt)
 
 -- ---- lists
 
@@ -82,7 +75,7 @@ like-exact : (x y : Float) → Known x → Known y → like x y ≡ true → x �
 unfolding like
 like-exact x y h g e =
     let p : toBits binary64 x ≡ toBits binary64 y =
-        eqb-true (toBits binary64 x) (toBits binary64 y) (and-right (eq y y) (eqb (toBits binary64 x) (toBits binary64 y)) (and-right (eq x x) (eq y y && eqb (toBits binary64 x) (toBits binary64 y)) e)) in
+    eqb-true (toBits binary64 x) (toBits binary64 y) (and-right (eq y y) (eqb (toBits binary64 x) (toBits binary64 y)) (and-right (eq x x) (eq y y && eqb (toBits binary64 x) (toBits binary64 y)) e)) in
     sym (ofBits-toBits binary64 x (h .fitting)) ∙ ap (ofBits binary64) p ∙ ofBits-toBits binary64 y (g .fitting)
 
 like-self : (x : Float) → Known x → like x x ≡ true

@@ -7,7 +7,7 @@ use native.Mathlib.Omega.{arith}
 use native.Mathlib.Numerals.{add-one}
 use lib.ListN.{length, take, drop, set, length-drop, drop-of-length-le}
 use lib.Seq.{take-suc-set}
-use lib.Dec.{eqb, ltb}
+use lib.Dec.{eqb}
 use borrow.Author.Tests.{lt-ltb, le-ltb}
 use Rattle.text.specs.Bytes.{blank, newline}
 use Rattle.text.specs.Split.{push, pieces, before, starts, lines, words}
@@ -16,7 +16,7 @@ use Rattle.text.specs.Number.{decimal}
 use Rattle.text.specs.declared.Number.the-variants.{Bad, Value}
 use Rattle.replay.specs.declared.Tally.{Tally}
 use Rattle.replay.specs.Vector.{vector-holds}
-use Rattle.replay.specs.Lines.{read-on, line-numbers, line-holds, one, added, group-key, scripts, next-group, count, tallied}
+use Rattle.replay.specs.Lines.{read-on, line-numbers, line-holds, one, added, group-key, scripts, next-group, others, all-scripts, count, tallied, Grouped}
 
 -- the words behind the name
 pub behind-name : (line : List ℕ) (end : ℕ) → end ≡ 0 + length (before blank (drop 0 line)) → words-from line (end + 1) ≡ drop 1 (words line)
@@ -160,11 +160,6 @@ pub record Counting (test : List ℕ → Bool) (input : List ℕ) (from at : ℕ
   pub failed : t .failed + count (λ l. not (test l)) (scripts (lines (drop at input))) ≡ count (λ l. not (test l)) (scripts (lines (drop from input)))
   pub rest : next-group (lines (drop at input)) ≡ next-group (lines (drop from input))
 
--- a group whose scripts are counted, and where the next begins
-pub record Grouped (test : List ℕ → Bool) (input : List ℕ) (from end : ℕ) (t : Tally) : Type 0 where
-  pub tally : t ≡ tallied test (scripts (lines (drop from input)))
-  pub rest : lines (drop end input) ≡ next-group (lines (drop from input))
-
 made : (t : Tally) (p f : ℕ) → t .passed ≡ p → t .failed ≡ f → t ≡ record { passed = p; failed = f }
 made t p f e g = rw (← e, ← g)
 
@@ -212,4 +207,74 @@ module _ (test : List ℕ → Bool) (input : List ℕ) (from : ℕ) where
             passed = omega (arith, p, k .passed, counted-le test input from, ap (λ (x : Tally). x .passed) ev);
             failed = omega (arith, q, k .failed, counted-le (λ x. not (test x)) input from, ap (λ (x : Tally). x .failed) ev);
             rest = sym (next-line l ls b) ∙ sym (ap next-group c) ∙ k .rest;
+          }
+
+-- ---- all groups
+
+others-le : (ls : List (List ℕ)) → length (others ls) ≤ length ls
+unfolding others
+others-le [] = omega arith
+others-le (l ∷ ls) = go (starts group-key l) (others-le ls)
+  where
+    go : (t : Bool) → length (others ls) ≤ length ls → length {A = List ℕ} (elim t as (λ _. List (List ℕ)) [ true ↦ others ls | false ↦ l ∷ others ls ]) ≤ suc (length ls)
+    go true h = omega arith
+    go false h = omega arith
+
+all-le : (ls : List (List ℕ)) → length (all-scripts ls) ≤ length ls
+unfolding all-scripts
+all-le [] = omega arith
+all-le (l ∷ ls) = omega (arith, others-le ls)
+
+totalled-le : (test : List ℕ → Bool) (input : List ℕ) → count test (all-scripts (lines input)) ≤ length input
+totalled-le test input = omega (arith, count-le test (all-scripts (lines input)), all-le (lines input), lines-le input)
+
+-- the scripts up to the next group, and from it on
+others-parts : (test : List ℕ → Bool) (ls : List (List ℕ)) → count test (others ls) ≡ count test (scripts ls) + count test (all-scripts (next-group ls))
+unfolding others scripts next-group all-scripts count
+others-parts test [] = omega arith
+others-parts test (l ∷ ls) = go (starts group-key l) refl (others-parts test ls)
+  where
+    go : (b : Bool) → starts group-key l ≡ b → count test (others ls) ≡ count test (scripts ls) + count test (all-scripts (next-group ls))
+        → count test (others (l ∷ ls)) ≡ count test (scripts (l ∷ ls)) + count test (all-scripts (next-group (l ∷ ls)))
+    go true e ih = let z : count test (others ls) ≡ 0 + count test (others ls) = omega arith in rw (e, others, scripts, next-group) z
+    go false e ih =
+        let p : count test (others (l ∷ ls)) ≡ count test (l ∷ others ls) = rw (e, others) in
+        let q : count test (scripts (l ∷ ls)) ≡ count test (l ∷ scripts ls) = rw (e, scripts) in
+        let r : count test (all-scripts (next-group (l ∷ ls))) ≡ count test (all-scripts (next-group ls)) = rw (e, next-group) in
+        omega (arith, p, q, r, ih, count-one test l (others ls), count-one test l (scripts ls))
+
+-- what is counted before `at`, with what is left, is all
+pub record Totalling (test : List ℕ → Bool) (input : List ℕ) (at : ℕ) (t : Tally) : Type 0 where
+  pub passed : t .passed + count test (all-scripts (lines (drop at input))) ≡ count test (all-scripts (lines input))
+  pub failed : t .failed + count (λ l. not (test l)) (all-scripts (lines (drop at input))) ≡ count (λ l. not (test l)) (all-scripts (lines input))
+
+pub group-as : {r r′ w w′ a a′ o o′ : ℕ} {input : List ℕ} {from end : ℕ} {t : Tally} → Grouped (line-holds r w a o) input from end t → r ≡ r′ → w ≡ w′ → a ≡ a′ → o ≡ o′
+    → Grouped (line-holds r′ w′ a′ o′) input from end t
+group-as g er ew ea eo = rw (er, ew, ea, eo) at g
+
+module _ (test : List ℕ → Bool) (input : List ℕ) where
+  pub totalling-start : Totalling test input 0 record { passed = 0; failed = 0 }
+  totalling-start = record { passed = omega arith; failed = omega arith }
+
+  module _ (at : ℕ) (t : Tally) (k : Totalling test input at t) where
+    pub totalling-end : length input ≤ at → t ≡ tallied test (all-scripts (lines input))
+    unfolding pieces all-scripts count
+    totalling-end h =
+        let e : drop at input ≡ [] = drop-of-length-le input {i = at} h in
+        let p : count test (all-scripts (lines (drop at input))) ≡ 0 = ap (λ (l : List ℕ). count test (all-scripts (lines l))) e in
+        let q : count (λ l. not (test l)) (all-scripts (lines (drop at input))) ≡ 0 = ap (λ (l : List ℕ). count (λ l. not (test l)) (all-scripts (lines l))) e in
+        made t (count test (all-scripts (lines input))) (count (λ l. not (test l)) (all-scripts (lines input))) (omega (arith, k .passed, p)) (omega (arith, k .failed, q))
+
+    module _ (end next : ℕ) (u v : Tally) (h : at < length input) (e : end ≡ at + length (before newline (drop at input))) (g : Grouped test input (end + 1) next u) where
+      left : (f : List ℕ → Bool) → count f (all-scripts (lines (drop at input))) ≡ count f (scripts (lines (drop (end + 1) input))) + count f (all-scripts (lines (drop next input)))
+      unfolding all-scripts
+      left f =
+          ap (λ (x : List (List ℕ)). count f (all-scripts x)) (lines-turn input at end h e) ∙ others-parts f (lines (drop (end + 1) input))
+          ∙ ap (λ (x : List (List ℕ)). count f (scripts (lines (drop (end + 1) input))) + count f (all-scripts x)) (sym (g .rest))
+
+      pub totalling-group : length input < 2 ^ 64 → v ≡ added t u → Totalling test input next v
+      totalling-group small ev =
+          record {
+            passed = omega (arith, left test, k .passed, totalled-le test input, ap (λ (x : Tally). x .passed) ev, ap (λ (x : Tally). x .passed) (g .tally));
+            failed = omega (arith, left (λ x. not (test x)), k .failed, totalled-le (λ x. not (test x)) input, ap (λ (x : Tally). x .failed) ev, ap (λ (x : Tally). x .failed) (g .tally));
           }

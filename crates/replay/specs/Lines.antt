@@ -1,10 +1,11 @@
 -- Vectors as lines of text, and how many of them hold.
-use Prim.Native.Nat.{ℕ, suc, _+_, _%_, _^_}
+use Prim.Native.Nat.{ℕ, _+_, _%_, _^_}
+use mathlib.Core.Path.{_≡_}
 use mathlib.Core.Bool.{Bool, true, false, not}
 use mathlib.Core.List.{List, [], _∷_, _++_}
 use lib.ListN.{length, drop}
 use lib.Dec.{ltb}
-use Rattle.text.specs.Split.{words, starts}
+use Rattle.text.specs.Split.{lines, words, starts}
 use Rattle.text.specs.Number.{decimal}
 use Rattle.text.specs.declared.Number.the-variants.{Bad, Value}
 use Rattle.replay.specs.declared.Tally.{Tally}
@@ -51,6 +52,16 @@ unfoldable pub next-group : List (List ℕ) → List (List ℕ)
 next-group [] = []
 next-group (l ∷ ls) = elim (starts group-key l) [ true ↦ l ∷ ls | false ↦ next-group ls ]
 
+-- the lines that begin no group
+unfoldable pub others : List (List ℕ) → List (List ℕ)
+others [] = []
+others (l ∷ ls) = elim (starts group-key l) [ true ↦ others ls | false ↦ l ∷ others ls ]
+
+-- the scripts of all groups: the first line is a title, whatever it is
+unfoldable pub all-scripts : List (List ℕ) → List (List ℕ)
+all-scripts [] = []
+all-scripts (l ∷ ls) = others ls
+
 -- how many lines pass a test
 unfoldable pub count : (List ℕ → Bool) → List (List ℕ) → ℕ
 count test [] = 0
@@ -59,3 +70,8 @@ count test (l ∷ ls) = elim (test l) [ true ↦ 1 + count test ls | false ↦ c
 -- how many hold, and how many do not
 abbrev pub tallied : (List ℕ → Bool) → List (List ℕ) → Tally
 tallied test ls = record { passed = count test ls; failed = count (λ l. not (test l)) ls }
+
+-- a group whose scripts are counted, and where the next begins
+pub record Grouped (test : List ℕ → Bool) (input : List ℕ) (from end : ℕ) (t : Tally) : Type 0 where
+  pub tally : t ≡ tallied test (scripts (lines (drop from input)))
+  pub rest : lines (drop end input) ≡ next-group (lines (drop from input))

@@ -1,7 +1,7 @@
 -- A vector passes exactly when the run over noise is what it wants: the answer, and every cell of the three slices.
 use Prim.Native.Nat.{ℕ, zero, suc}
 use mathlib.Core.Path.{_≡_, refl, sym, ap, subst}
-use mathlib.Core.Bool.{Bool, true, false, _&&_}
+use mathlib.Core.Bool.{true, _&&_}
 use mathlib.Core.List.{List, _++_}
 use lib.ListN.{length, drop, replicate}
 use lib.Dec.{T, eqb}
@@ -10,8 +10,9 @@ use borrow.Author.Tests.{eq-eqb, eqb-true}
 use Rattle.model.specs.State.{f64-zero}
 use Rattle.model.specs.Script.{Reading, refused, accepted, read, header}
 use Rattle.model.specs.Run.{Answer, turned-back, ran, After, after}
+use Rattle.script.specs.Sound.{and-left, and-right}
 use Rattle.replay.specs.Cells.{noise-cells, noise-floats, float, same, same-floats}
-use Rattle.replay.specs.Exact.{and-left, and-right, Each, each-append, each-drop, each-replicate, same-exact, same-self, Known, floats-exact, floats-self, known-float, known-noise, zero-float}
+use Rattle.replay.specs.Exact.{Each, each-append, each-drop, each-replicate, same-exact, same-self, Known, floats-exact, floats-self, known-float, known-noise, zero-float}
 use Rattle.replay.specs.Vector.{same-answer, agrees, wanted, passes}
 use Rattle.replay.specs.VectorLaws.{made}
 

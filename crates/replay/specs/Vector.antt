@@ -1,6 +1,6 @@
 -- What a vector wants of its script, and whether the script gives it.
 use Prim.Native.Nat.{ℕ, zero, suc, _+_, _-_}
-use mathlib.Core.Bool.{Bool, true, false, _&&_}
+use mathlib.Core.Bool.{Bool, false, _&&_}
 use mathlib.Core.List.{List, _++_}
 use lib.ListN.{length, getD, take, drop, replicate}
 use lib.Dec.{eqb, leb}

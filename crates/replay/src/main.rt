@@ -6,9 +6,8 @@ ghost use mathlib.Core.Path.{_≡_};
 ghost use mathlib.Core.List.{_++_};
 ghost use Prim.Native.Nat.{_+_, _≤_};
 ghost use lib.ListN.{length, take, drop, replicate};
-ghost use Rattle.text.specs.Split.{before};
-ghost use Rattle.replay.specs.LineLaws.{Grouped};
-ghost use Rattle.replay.specs.Lines.{line-numbers, line-holds, one, added};
+ghost use Rattle.text.specs.Split.{before, lines};
+ghost use Rattle.replay.specs.Lines.{line-numbers, line-holds, one, added, all-scripts, tallied, Grouped};
 ghost use Rattle.replay.specs.Vector.{is-run, untouched, passes, vector-holds};
 ghost use Rattle.replay.specs.Cells.{noise, noise-cells, noise-floats, cell-behind, cell-clear, float, like, same, same-floats};
 use engine::Answer;
@@ -346,14 +345,16 @@ fn group(
     Counted { tally: t, end: at }
 }
 
-// All groups, a line for each.
-fn replay(
+// All groups, a line for each; and all of them counted.
+fn groups(
     input: &[u8],
     cells: &mut [u32],
     work: &mut [u32],
     activities: &mut [f64],
     out: &mut [u32],
-) {
+) -> Tally
+    ensures { λ r. ⌜ r ≡ tallied (line-holds (length (now (cells .entry))) (length (now (work .entry))) (length (now (activities .entry))) (length (now (out .entry)))) (all-scripts (lines (now (input .entry)))) ⌝ }
+{
     let mut all = Tally {
         passed: 0,
         failed: 0,
@@ -367,6 +368,17 @@ fn replay(
         all = sum(all, t);
         at = g.end;
     }
+    all
+}
+
+fn replay(
+    input: &[u8],
+    cells: &mut [u32],
+    work: &mut [u32],
+    activities: &mut [f64],
+    out: &mut [u32],
+) {
+    let all = groups(input, cells, work, activities, out);
     show(b"all", all);
 }
 

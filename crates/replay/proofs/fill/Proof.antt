@@ -1,7 +1,7 @@
 use Prim.Native.Nat.{_-_, _≤_}
-use mathlib.Core.Path.{_≡_, refl, ap, _∙_}
+use mathlib.Core.Path.{_≡_, refl, _∙_}
 use native.Mathlib.Omega.{arith}
-use lib.ListN.{length, set, length-set}
+use lib.ListN.{length, length-set}
 use Rattle.replay.specs.Cells.{noise}
 use Rattle.replay.specs.CellLaws.{Filled, filled-none, filled-more, filled-all}
 use borrow.Author.Needs.{needs}

@@ -1,8 +1,8 @@
 use Prim.Native.Nat.{_-_, _≤_}
 use mathlib.Core.Path.{_≡_, refl, ap, _∙_}
 use native.Mathlib.Omega.{arith}
-use lib.ListN.{length, set, length-set}
-use lib.Ieee.{Float, nan}
+use lib.ListN.{length, length-set}
+use lib.Ieee.{nan}
 use Rattle.replay.specs.Cells.{noise, float}
 use Rattle.replay.specs.CellLaws.{Filled, filled-none, filled-more, filled-all}
 use borrow.Author.Needs.{needs}

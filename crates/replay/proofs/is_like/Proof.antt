@@ -2,8 +2,6 @@ use mathlib.Core.Path.{_≡_, sym, subst}
 use mathlib.Core.Bool.{true, not}
 use lib.Dec.{T}
 use lib.Ieee.{Float, nan, inf, fin, eq, isNan}
-use borrow.Author.Needs.{needs}
-use Rattle.replay.specs.Cells.{like}
 use Rattle.replay.specs.CellLaws.{like-numbers, like-other, like-nan}
 use Rattle.replay.proofs.is_like.Statement.{statement}
 use Rattle.replay.proofs.is_like.Tie as tie

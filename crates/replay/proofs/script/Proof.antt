@@ -1,4 +1,4 @@
-use lib.ListN.{length, take}
+use lib.ListN.{length}
 use Rattle.replay.specs.Lines.{line-holds}
 use Rattle.replay.specs.LineLaws.{one-held, one-failed, holds-line}
 use native.Mathlib.Omega.{arith}

@@ -49,7 +49,7 @@ module _ (s w : List ℕ) (acts : List Float) (o : List ℕ) where
   unfolding after
   ran-some cfg rs e = rw (e, after)
 
-  refusal-numbered : (number place : ℕ) → after s w acts o .answer ≡ model.turned-back number place → 1 ≤ number
+  pub refusal-numbered : (number place : ℕ) → after s w acts o .answer ≡ model.turned-back number place → 1 ≤ number
   refusal-numbered number place f = go (read s (length w) (length acts) (length o)) refl
     where
       go : (x : Reading) → read s (length w) (length acts) (length o) ≡ x → 1 ≤ number

@@ -9,11 +9,11 @@ use lib.Seq.{take-all}
 use lib.Dec.{leb}
 use lib.Ieee.{Float}
 use borrow.Author.Tests.{le-leb, lt-leb, eq-eqb, ne-eqb}
-use Rattle.model.specs.Script.{Config, Record, Reading, refused, accepted, read, header, work-needed}
-use Rattle.model.specs.Run.{Answer, turned-back, ran, After, after, run}
+use Rattle.model.specs.Script.{Reading, refused, accepted, read, header, work-needed}
+use Rattle.model.specs.Run.{Answer, turned-back, ran, After, after}
 use Rattle.script.specs.Accepted.{accepted-of}
 use Rattle.script.specs.Needs.{sized}
-use Rattle.engine.specs.Numbers.{refused-numbered}
+use Rattle.engine.specs.Answering.{refusal-numbered}
 use Rattle.engine.specs.Runs.{answer-of, Runs}
 use Rattle.engine.specs.declared.Answer as engine
 use Rattle.engine.specs.declared.Answer.the-variants as engine-answer
@@ -27,10 +27,6 @@ module _ (s w : List ℕ) (a : List Float) (o : List ℕ) where
   unfolding after
   answer-refused number place e = rw (e, after)
 
-  answer-accepted : (cfg : Config) (rs : List Record) → read s (length w) (length a) (length o) ≡ accepted cfg rs → after s w a o .answer ≡ ran (length (run cfg rs))
-  unfolding after
-  answer-accepted cfg rs e = rw (e, after)
-
   apart : (number place n : ℕ) → _≡_ {A = Answer} (turned-back number place) (ran n) → ⊥
   apart number place n e = let q : _≡_ {A = ℕ} 0 1 = cc in omega (arith, q)
 
@@ -41,18 +37,6 @@ module _ (s w : List ℕ) (a : List Float) (o : List ℕ) where
       go : (x : Reading) → read s (length w) (length a) (length o) ≡ x → 6 ≤ length s
       go (refused number place) e = absurd (apart number place n (sym (answer-refused number place e) ∙ f))
       go (accepted cfg rs) e = accepted-of s (length w) (length a) (length o) cfg rs e .header-fits .cells
-
-  -- and a refusal has a number
-  refusal-numbered : (number place : ℕ) → after s w a o .answer ≡ turned-back number place → 1 ≤ number
-  refusal-numbered number place f = go (read s (length w) (length a) (length o)) refl
-    where
-      same-number : (m q : ℕ) → _≡_ {A = Answer} (turned-back m q) (turned-back number place) → m ≡ number
-      same-number m q e = cc
-
-      go : (x : Reading) → read s (length w) (length a) (length o) ≡ x → 1 ≤ number
-      go (refused m q) e =
-          omega (arith, same-number m q (sym (answer-refused m q e) ∙ f), refused-numbered s (length w) (length a) (length o) m q e)
-      go (accepted cfg rs) e = absurd (apart number place (length (run cfg rs)) (sym f ∙ answer-accepted cfg rs e))
 
 -- ---- tests, one after the other
 

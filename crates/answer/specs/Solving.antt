@@ -55,6 +55,11 @@ module _ (cfg : Script.Config) (m : State.Solver) (ps : List ℕ) (budget : ℕ)
       (λ _. refl)
       (λ e. absurd (true≢false (sym e ∙ f)))
 
+-- the search of a budget b is that of the solve's own
+pub within-budget : (g : Config) (m : State.Solver) (ps : List ℕ) (budget b : ℕ) (r : Searched) (w : List ℕ) (acts : List Float)
+    → Ends g (found-by (config-of g) m ps b) r w acts → b ≡ budget → Ends g (found-by (config-of g) m ps budget) r w acts
+within-budget g m ps budget b r w acts found e = subst (λ (n : ℕ). Ends g (found-by (config-of g) m ps n) r w acts) e found
+
 module _ (g : Config) (x : Solver) (w : List ℕ) (acts : List Float) (between : Between g x w acts) (limited : Limited (config-of g)) where
   -- ---- a solve
 

@@ -59,7 +59,7 @@ same-length-3 c = search needs
 returns-3 : tie.Need-returns-3
 returns-3 c =
     let a = c .before .before .before .before .before .before .before .before .before .before .before .args in
-    answers-budget (a .g) (a .r) (a .work .now) (a .out .now) (a .at) _ _ (c .before .before .before .before .enum-told3 .given .1) (c .before .before .put-stopped .ensures)
+    answers-budget (a .g) (a .r) (a .work .now) (a .out .now) (a .at) _ _ (c .before .before .before .before .enum-told3 .given .1) (c .before .before .put-stopped .ensures .0, c .before .before .put-stopped .ensures .1)
 
 same-length-4 : tie.Need-same-length-4
 same-length-4 c = search needs
@@ -67,7 +67,7 @@ same-length-4 c = search needs
 returns-4 : tie.Need-returns-4
 returns-4 c =
     let a = c .before .before .before .before .before .before .before .before .before .before .before .args in
-    answers-no-storage (a .g) (a .r) (a .work .now) (a .out .now) (a .at) _ _ (c .before .before .before .before .enum-told4 .given .1) (c .before .before .put-stopped2 .ensures)
+    answers-no-storage (a .g) (a .r) (a .work .now) (a .out .now) (a .at) _ _ (c .before .before .before .before .enum-told4 .given .1) (c .before .before .put-stopped2 .ensures .0, c .before .before .put-stopped2 .ensures .1)
 
 pub put-answer-spec : {M : Type 1} → statement M
 put-answer-spec =

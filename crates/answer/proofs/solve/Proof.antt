@@ -34,7 +34,7 @@ returns-2 : tie.Need-returns-2
 returns-2 c =
     let a = c .before .before .before .before .before .before .before .before .before .before .before .args in
     let p = c .before .before .before .before .before .before .before .before .before .before .before .pre in
-    solved-closed (a .g) (a .x) (a .work .now) (a .act .now) (p .0) (p .1 .0) (a .assumptions .now) (p .1 .1 .0) (a .budget) (c .before .before .before .before .before .if1 .left) (a .out .now) (a .at) _ _ (c .before .before .put-solve .ensures)
+    solved-closed (a .g) (a .x) (a .work .now) (a .act .now) (p .0) (p .1 .0) (a .assumptions .now) (p .1 .1 .0) (a .budget) (c .before .before .before .before .before .if1 .left) (a .out .now) (a .at) _ _ (c .before .before .put-solve .ensures .0, c .before .before .put-solve .ensures .1)
 
 pub solve-spec : {M : Type 1} → statement M
 solve-spec =

@@ -1,6 +1,9 @@
 use mathlib.Core.Path.{_≡_, refl, _∙_}
 use native.Mathlib.Omega.{arith}
+use Prim.Native.Nat.{_+_}
 use lib.ListN.{length, length-set}
+use lib.Seq.{paste}
+use Rattle.model.specs.Search.{cells}
 use Rattle.cells.specs.Paste.{paste-solve}
 use borrow.Author.Needs.{needs}
 use Rattle.cells.proofs.put_solve.Statement.{statement}
@@ -51,7 +54,8 @@ same-length c = c .before .before .put .kept .0 ∙ simp length-set
 returns : tie.Need-returns
 returns c =
     let a = c .before .before .before .before .before .before .args in
-    (c .before .before .put .ensures ∙ paste-solve (a .out .now) (a .at) (a .answer) (a .conflicts) (a .body .now) (omega arith), refl)
+    let n = length (a .body .now) in
+    (_∙_ {c = paste (a .out .now) (a .at) (cells (a .answer) (a .conflicts) (a .body .now)) (3 + n)} (c .before .before .put .ensures) (paste-solve (a .out .now) (a .at) (a .answer) (a .conflicts) (a .body .now) (omega arith)), refl)
 
 pub put-solve-spec : {M : Type 1} → statement M
 put-solve-spec =

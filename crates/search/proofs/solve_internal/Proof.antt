@@ -72,7 +72,16 @@ loop-again c =
     let t = c .before .before .before .before .before .before .before .before .before .before .before .luby .ensures in
     let s = c .before .before .before .before .before .before .before .search in
     let n = cut-of _ _ _ (sym (c .before .before .again .ensures) ∙ not-false _ (c .before .if1 .left)) in
-    (solving-goes l (i .0) t (s .ensures) n (s .kept .1 .1 .1 .0), s .kept .1 .1 .0 ∙ i .1, s .kept .1 .1 .1 .0 ∙ i .2)
+    let o = solving-goes l (i .0) t (s .ensures) n (s .kept .1 .1 .1 .0) in
+    let r = o .round in (
+      record {
+        running = o .running;
+        round = record { ongoing = r .ongoing; flat = r .flat; restarts = r .restarts; spent = r .spent; high = r .high };
+        same = o .same;
+      },
+      s .kept .1 .1 .0 ∙ i .1,
+      s .kept .1 .1 .1 .0 ∙ i .2,
+    )
 
 pub solve-internal-spec : {M : Type 1} → statement M
 solve-internal-spec =

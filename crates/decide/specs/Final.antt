@@ -194,7 +194,11 @@ module _ (g : Config) (h : Header) (w : List ℕ) (s : Still g h w) (p : ℕ) (o
                 head = b .head ∙ ap (λ (y : Header). with-final-head y (members (length (blame st vs (upper vs start) first-seen (p ∷ []))))) first-head;
               }
 
-        pub explain-ends : (r′ : Header) (w₃ w₄ : List ℕ) → Blamed d r (whole d r w₂) start r′ w₃
-            → Holds d r′ w₄ (with-scratch (whole d r′ w₃) (marked (whole d r′ w₃ .scratch) (var p) 0))
+        -- the mark of p's variable is 0 afterwards
+        pub explain-ends : (r′ : Header) (w₃ w₄ : List ℕ) → Blamed d r (whole d r w₂) start r′ w₃ → (mark : ℕ)
+            → Holds d r′ w₄ (with-scratch (whole d r′ w₃) (marked (whole d r′ w₃ .scratch) (var p) mark)) → mark ≡ 0
             → Explained (g .sizes) h (whole (g .sizes) h w) (analyze-final (state-at g h w .store) (state-at g h w .vars) p) r′ w₄
-        explain-ends r′ w₃ w₄ b c = rw walked-is at (ended r′ w₃ w₄ (rw (marked-holds .whole) at b) c)
+        explain-ends r′ w₃ w₄ b mark c e =
+            rw walked-is at
+            (ended r′ w₃ w₄ (rw (marked-holds .whole) at b)
+            (subst (λ (m : ℕ). Holds d r′ w₄ (with-scratch (whole d r′ w₃) (marked (whole d r′ w₃ .scratch) (var p) m))) e c))

@@ -1,7 +1,7 @@
 use borrow.Author.Needs.{needs}
 use Prim.Native.Nat.{_<_}
 use native.Mathlib.Omega.{arith}
-use mathlib.Core.Path.{_≡_, sym, ap, _∙_}
+use mathlib.Core.Path.{_≡_, refl, sym, ap, _∙_}
 use Rattle.decide.specs.Final.{explain-var, explain-asks, explain-shallow, explain-limit, explain-walk, explain-ends}
 use Rattle.decide.proofs.analyze_final.Statement.{statement}
 use Rattle.decide.proofs.analyze_final.Tie as tie
@@ -59,7 +59,7 @@ returns-2 c =
     let f = c .before .before .before .before .before .before .before .before .before .before .before .before .before .before .before .before .before .before .before .final-insert in
     explain-ends (a .g) (a .h) (a .work .now) (c .before .before .before .before .before .before .before .before .before .before .before .before .before .before .before .before .before .before .before .before .before .before .before .before .pre .0) (a .p .0) (c .before .before .before .before .before .before .before .before .before .before .before .before .before .before .before .before .before .before .before .before .before .before .before .before .pre .1) (f .result) _ (f .ensures .0) (f .ensures .1)
     _ (rw (c .before .before .before .before .before .before .before .before .before .before .before .before .before .before .before .before .before .before .before .before .before .var .ensures) at (c .before .before .before .before .before .before .before .before .before .before .before .before .set-mark .ensures)) (rw (c .before .before .before .before .before .before .before .before .before .before .before .before .before .before .before .decision-level .ensures) at (c .before .before .before .before .before .before .before .before .before .before .before .before .before .before .if1 .left)) (c .before .before .before .before .before .before .before .before .limit-at .result) (c .before .before .before .before .before .before .before .before .limit-at .ensures)
-    (c .before .before .before .before .before .before .blame .result) _ _ (c .before .before .before .before .before .before .blame .ensures) (rw (c .before .before .before .before .before .before .before .before .before .before .before .before .before .before .before .before .before .before .before .before .before .var .ensures) at (c .before .before .set-mark2 .ensures))
+    (c .before .before .before .before .before .before .blame .result) _ _ (c .before .before .before .before .before .before .blame .ensures) _ (rw (c .before .before .before .before .before .before .before .before .before .before .before .before .before .before .before .before .before .before .before .before .before .var .ensures) at (c .before .before .set-mark2 .ensures)) refl
 
 pub analyze-final-spec : {M : Type 1} → statement M
 analyze-final-spec =

@@ -36,7 +36,8 @@ new-requires c κs =
 returns-2 : tie.Need-returns-2
 returns-2 c =
     let a = c .before .before .before .before .before .before .before .before .before .args in
-    ap some (c .new .ensures ∙ ap (λ y. 2 * c .before .before .before .before .pick .result + y) (c .before .phase .ensures)) ∙ picks-some (a .g) (a .h) (a .work .now) (c .before .before .before .before .before .before .before .before .before .pre .0) (a .act .now) (c .before .before .before .before .pick .result) (rw (c .before .before .before .before .before .values .ensures) at (c .before .before .before .before .pick .ensures)) (c .before .before .if1 .left)
+    let n : c .new .result .0 ≡ 2 * c .before .before .before .before .pick .result + c .before .phase .result = c .new .ensures in
+    ap some (n ∙ ap (λ y. 2 * c .before .before .before .before .pick .result + y) (c .before .phase .ensures)) ∙ picks-some (a .g) (a .h) (a .work .now) (c .before .before .before .before .before .before .before .before .before .pre .0) (a .act .now) (c .before .before .before .before .pick .result) (rw (c .before .before .before .before .before .values .ensures) at (c .before .before .before .before .pick .ensures)) (c .before .before .if1 .left)
 
 pub pick-branch-lit-spec : {M : Type 1} → statement M
 pick-branch-lit-spec =

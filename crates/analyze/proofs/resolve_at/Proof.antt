@@ -37,9 +37,10 @@ join-requires : tie.Need-join-requires
 join-requires c κs =
     let a = c .before .before .before .before .before .before .before .before .before .before .before .before .before .before .before .args in
     let p = c .before .before .before .before .before .before .before .before .before .before .before .before .before .before .before .pre in
-    rw (c .before .before .before .before .before .before .before .wide .ensures, c .before .before .before .before .before .before .before .before .reason .ensures, c .before .before .before .before .before .before .before .before .before .before .var .ensures, c .before .before .before .before .before .before .before .before .before .before .before .trail-at .ensures)
-    (turn-asks (a .d) (a .h) (a .work .now) (a .act .now) (a .r) (a .i) (p .0) (p .1 .0) (p .1 .1) _
-    (rw (c .before .before .before .before .before .before .before .before .before .before .var .ensures, c .before .before .before .before .before .before .before .before .before .before .before .trail-at .ensures) at (c .before .before .before .before .before .set-mark .ensures)))
+    let t =
+    turn-asks (a .d) (a .h) (a .work .now) (a .act .now) (a .r) (a .i) (p .0) (p .1 .0) (p .1 .1) _
+    (rw (c .before .before .before .before .before .before .before .before .before .before .var .ensures, c .before .before .before .before .before .before .before .before .before .before .before .trail-at .ensures) at (c .before .before .before .before .before .set-mark .ensures)) in
+    (t .0, (rw (c .before .before .before .before .before .before .before .wide .ensures, c .before .before .before .before .before .before .before .before .reason .ensures, c .before .before .before .before .before .before .before .before .before .before .var .ensures, c .before .before .before .before .before .before .before .before .before .before .before .trail-at .ensures) (t .1 .0), (rw (c .before .before .before .before .before .before .before .wide .ensures, c .before .before .before .before .before .before .before .before .reason .ensures, c .before .before .before .before .before .before .before .before .before .before .var .ensures, c .before .before .before .before .before .before .before .before .before .before .before .trail-at .ensures) (t .1 .1 .0), rw (c .before .before .before .before .before .before .before .wide .ensures, c .before .before .before .before .before .before .before .before .reason .ensures, c .before .before .before .before .before .before .before .before .before .before .var .ensures, c .before .before .before .before .before .before .before .before .before .before .before .trail-at .ensures) (t .1 .1 .1))))
 
 same-length : tie.Need-same-length
 same-length c = c .before .before .before .before .join .kept .1 .1 .0 ∙ c .before .before .before .before .before .before .before .before .before .before .set-mark .kept .1 .1 .0

@@ -54,7 +54,8 @@ unmark-requires : tie.Need-unmark-requires Inv-loop μ-loop
 unmark-requires c κs =
     let p = laid (c .before .before .before .before .before .before .before .before .before .before .before .before .before .before .before .before .before .before .before .pre .0) (c .before .before .before .before .before .before .before .before .before .before .before .before .before .before .before .before .before .before .before .pre .1) (c .before .before .before .before .before .before .before .before .before .before .before .before .before .before .before .before .set-stack .ensures) in
     let g = c .before .before .before .before .before .before .before .before .before .before .before .before .before .loop .inv .0 in
-    (c .before .before .before .before .before .push-reason .ensures .beside .rep, tracks-clear p g (omega arith) (c .before .before .before .before .before .before .before .before .before .before .stack-at .ensures) (rw (c .before .before .before .before .before .before .before .before .var .ensures) at (c .before .before .before .before .before .before .before .reason .ensures)) (c .before .before .before .before .before .push-reason .ensures) (not-true _ (c .before .if1 .taken)))
+    let k = tracks-clear p g (omega arith) (c .before .before .before .before .before .before .before .before .before .before .stack-at .ensures) (rw (c .before .before .before .before .before .before .before .before .var .ensures) at (c .before .before .before .before .before .before .before .reason .ensures)) (c .before .before .before .before .before .push-reason .ensures) (not-true _ (c .before .if1 .taken)) in
+    (c .before .before .before .before .before .push-reason .ensures .beside .rep, record { order = k .order; room = k .room; range = k .range })
 
 same-length : tie.Need-same-length Inv-loop μ-loop
 same-length c = c .before .before .unmark .kept .1 .1 .0 ∙ c .before .before .before .before .before .before .before .before .push-reason .kept .1 .1 .0 ∙ c .before .before .before .before .before .before .before .before .before .before .before .before .before .before .before .before .loop .inv .1 ∙ c .before .before .before .before .before .before .before .before .before .before .before .before .before .before .before .before .before .before .before .set-stack .kept .1 .1 .0

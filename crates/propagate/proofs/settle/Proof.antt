@@ -1,5 +1,5 @@
 use native.Mathlib.Omega.{arith}
-use mathlib.Core.Path.{refl, sym, ap, _∙_}
+use mathlib.Core.Path.{_≡_, refl, sym, ap, _∙_}
 use borrow.Author.Needs.{needs}
 use borrow.Author.Tests.{eq-eqb, ne-eqb}
 use Rattle.model.specs.Lit.{value-lit}
@@ -27,9 +27,10 @@ returns c =
     let a = c8 .args in
     let p = c8 .pre in
     let x = whole (a .d) (a .h) (a .work .now) in
+    let k : c .with-qhead .result ≡ with-qhead (a .h) (a .h .trail .assigned) = c .with-qhead .ensures in
     clashes (eq-eqb (value-lit (x .assignment .vars .values) (a .q .0)) 1 (sym (p .1 .1 .1 .0) ∙ c2 .if1 .taken))
     (c5 .pass .ensures)
-    (c .with-qhead .ensures ∙ ap (with-qhead (a .h)) (sym (assigned-counted (p .0))))
+    (k ∙ ap (with-qhead (a .h)) (sym (assigned-counted (p .0))))
     refl
 
 cast-enqueue : tie.Need-cast-enqueue

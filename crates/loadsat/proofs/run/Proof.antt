@@ -4,6 +4,8 @@ use native.Mathlib.Omega.{arith}
 use Rattle.text.specs.PrintBound.{printed-length, refusal-length}
 use Rattle.loadsat.specs.Laws.{small, no-longer, whole, run-refused, run-ran}
 use borrow.Author.Needs.{needs}
+use Rattle.model.specs.Run.{after}
+use Rattle.loadsat.specs.Bench.{answered}
 use Rattle.loadsat.proofs.run.Statement.{statement}
 use Rattle.loadsat.proofs.run.Tie as tie
 
@@ -39,7 +41,8 @@ same-length-4 c = search needs
 
 returns : tie.Need-returns
 returns c =
-    whole _ (c .before .before .before .before .before .before .before .before .before .before .before .before .before .before .before .before .before .before .before .before .before .before .before .pre .1 .2) (c .before .before .print-refusal .ensures) (refusal-length _ _ (omega (arith, c .before .before .before .before .known-told .given)) (omega (arith, c .before .before .before .before .known-told .given)))
+    let a = c .before .before .before .before .before .before .before .before .before .before .before .before .before .before .before .before .before .before .before .before .before .before .before .args in
+    whole (answered (a .script .now) (after (a .script .now) (a .work .now) (a .activities .now) (a .out .now))) (c .before .before .before .before .before .before .before .before .before .before .before .before .before .before .before .before .before .before .before .before .before .before .before .pre .1 .2) (c .before .before .print-refusal .ensures) (refusal-length _ _ (omega (arith, c .before .before .before .before .known-told .given)) (omega (arith, c .before .before .before .before .known-told .given)))
     (run-refused (c .before .before .before .before .before .before .before .before .before .before .before .before .before .run .ensures) _ _ (c .before .before .before .before .before .number .given .1))
 
 same-length-5 : tie.Need-same-length-5

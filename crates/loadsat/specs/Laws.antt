@@ -4,7 +4,8 @@ use mathlib.Core.Path.{_≡_, sym, ap, subst, _∙_}
 use mathlib.Core.List.{List, _++_}
 use native.Mathlib.Omega.{arith}
 use native.Mathlib.Nat.{zero-add}
-use lib.ListN.{length, getD, take, drop, length-append}
+use Rattle.model.specs.State.{f64-zero}
+use lib.ListN.{length, getD, take, drop, replicate, length-append}
 use mir.Val.{Fits}
 use mir.Syntax.{w32}
 use lib.Ieee.{Float}
@@ -22,7 +23,7 @@ use Rattle.text.specs.WriteLaws.{Written}
 use Rattle.text.specs.ReadLaws as read
 use Rattle.text.specs.declared.Answer as text
 use Rattle.text.specs.declared.Answer.the-variants as text-answer
-use Rattle.loadsat.specs.Bench.{answered, shown, Printed}
+use Rattle.loadsat.specs.Bench.{answered, shown, output, Printed}
 
 -- ---- there is room for all of it
 
@@ -111,3 +112,11 @@ module _ (input : List ℕ) {before behind : List ℕ} {r : text.Answer} (h : le
         let t = stored in
         let first : take n behind ≡ t .0 = ap (take n) (t .3) ∙ take-at (t .0) (drop (length (t .0)) before) n (t .2) in
         ap (λ (l : List ℕ). answered l (after l w a o)) first ∙ sym (ap (shown w a o) (t .1))
+
+-- a run over as many work cells as the program's, each 0, is the program's
+pub output-over : (w input : List ℕ) {before xs : List ℕ} {r : ℕ} → Printed before (shown w (replicate 128 f64-zero) (replicate max-cells 0) (read-text max-cells input)) xs r
+    → length w ≡ 12352 → w ≡ replicate (length w) 0 → Printed before (output input) xs r
+unfolding output
+output-over w input {before} {xs} {r} p n z =
+    subst (λ (u : List ℕ). Printed before (shown u (replicate 128 f64-zero) (replicate max-cells 0) (read-text max-cells input)) xs r)
+    (z ∙ ap (λ (k : ℕ). replicate k 0) n) p

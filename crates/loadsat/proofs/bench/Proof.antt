@@ -1,4 +1,5 @@
-use Rattle.loadsat.specs.Bench.{output}
+use mathlib.Core.Path.{refl}
+use Rattle.loadsat.specs.Laws.{output-over}
 use borrow.Author.Needs.{needs}
 use Rattle.loadsat.proofs.bench.Statement.{statement}
 use Rattle.loadsat.proofs.bench.Tie as tie
@@ -25,8 +26,7 @@ same-length : tie.Need-same-length
 same-length c = search needs
 
 returns : tie.Need-returns
-unfolding output
-returns c = c .before .before .before .before .before .before .before .answer .ensures
+returns c = output-over _ _ (c .before .before .before .before .before .before .before .answer .ensures) refl refl
 
 pub bench-spec : {M : Type 1} → statement M
 bench-spec =

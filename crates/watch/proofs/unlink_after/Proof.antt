@@ -1,6 +1,7 @@
 use mathlib.Core.Path.{ap}
 use Prim.Native.Nat.{_-_}
 use native.Mathlib.Omega.{arith}
+use Rattle.watch.specs.View.{with-tail, with-count, cells, Laid}
 use Rattle.watch.specs.Stores.{count-of, before-under, after-under, cut-last-holds, cut-inner-holds}
 use borrow.Author.Needs.{needs}
 use Rattle.watch.proofs.unlink_after.Statement.{statement}
@@ -77,8 +78,10 @@ returns c =
     let c23 = c19 .before .before .before .before in
     let a = c23 .args in
     let p = c23 .pre in
+    let counted : Laid (a .d) _ (with-count (a .l .0) (c17 .count-at .result - 1) (cells (a .d) _)) = c7 .put-count .ensures in
+    let tailed : Laid (a .d) _ (with-tail (a .l .0) (a .prev) (cells (a .d) _)) = c2 .put-tail .ensures in
     cut-last-holds (a .d) (a .s .now) (p .0) (a .l .0) (p .1 .0) (a .prev) _ _ _ _ _ (p .1 .1) (c19 .next-at .ensures) (c13 .next-at2 .ensures) (ap (λ k. k - 1) (c17 .count-at .ensures)) (c15 .tail-at .ensures) (c4 .if1 .taken)
-    (rw (c7 .put-count .ensures .cells, c11 .put-next .ensures .cells) at (c2 .put-tail .ensures))
+    (rw (counted .cells, c11 .put-next .ensures .cells) at tailed)
 
 same-length-2 : tie.Need-same-length-2
 same-length-2 c = search needs

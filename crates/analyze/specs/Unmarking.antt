@@ -5,8 +5,9 @@ use mathlib.Core.Path.{_≡_, refl, sym, ap, _∙_, subst}
 use mathlib.Core.Logic.{_≢_}
 use mathlib.Core.Bool.{true, false, true≢false}
 use mathlib.Core.List.{List, [], _∷_, List·Memᴰ·head as here, List·Memᴰ·tail as there, List·Memᴰ·not-nil as not-nil}
-use lib.ListN.{length, getD, set, take, drop, replicate, length-set, length-replicate, getD-replicate, drop-of-length-le, List·getD-eq-default}
-use lib.Seq.{slice, slice-cons, length-slice, length-take-le, getD-take, getD-drop, ext-getD}
+use lib.ListN.{length, getD, set, take, drop, replicate, length-set, drop-of-length-le, List·getD-eq-default}
+use lib.Seq.{slice, slice-cons, length-slice, length-take-le, getD-take, getD-drop}
+use Rattle.region.specs.Table.{all-zero}
 use lib.Dec.{eqb}
 use borrow.Author.Tests.{eqb-true, eq-eqb}
 use Rattle.model.specs.Lit.{var}
@@ -55,13 +56,12 @@ left-less n m q ls k =
     behind p v (there i) f g = i
 
 left-none : (n : ℕ) (m : List ℕ) → Left n m [] → m ≡ replicate n 0
-left-none n m k = ext-getD 0 m (replicate n 0) (k .sized ∙ sym (length-replicate n 0))
-    (λ i h.
-    let g : i < n = omega (arith, k .sized) in
-    let z : getD m i 0 ≡ 0 = split (same? (getD m i 0) 1)
+left-none n m k =
+    all-zero n m (k .sized)
+    (λ i g.
+    split (same? (getD m i 0) 1)
     (λ e. absurd (not-nil (k .only i (eq-eqb (getD m i 0) 1 e) .1)))
-    (λ e. omega (arith, k .cells i)) in
-    z ∙ sym (getD-replicate n i 0 0 g))
+    (λ e. omega (arith, k .cells i)))
 
 -- The marks are those of the buffer's literals from place i on.
 pub record Unmarking (d : Sizes) (h : Header) (x : Whole) (n i : ℕ) (w : List ℕ) : Type 0 where

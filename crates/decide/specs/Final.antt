@@ -5,7 +5,8 @@ use mathlib.Core.Path.{_≡_, refl, sym, ap, subst, _∙_}
 use mathlib.Core.Logic.{_≢_}
 use mathlib.Core.List.{List, [], _∷_, reverse}
 use lib.ListN.{length, getD, drop, set, replicate, length-set, length-replicate, getD-replicate, List·getD-eq-default}
-use lib.Seq.{ext-getD, getD-set-same, getD-set-other}
+use lib.Seq.{getD-set-same, getD-set-other}
+use Rattle.region.specs.Table.{all-zero}
 use Rattle.model.specs.Lit.{var}
 use Rattle.model.specs.State.{Store, VarState, decision-level}
 use Rattle.model.specs.Final.{mem, insert, blame, analyze-final}
@@ -171,11 +172,10 @@ module _ (g : Config) (h : Header) (w : List ℕ) (s : Still g h w) (p : ℕ) (o
 
           cleared : set (b .seen) (var p) 0 ≡ replicate (g .sizes .vars) 0
           cleared =
-              ext-getD 0 (set (b .seen) (var p) 0) (replicate (g .sizes .vars) 0)
-              (length-set (b .seen) (var p) 0 ∙ seen-length ∙ sym (length-replicate (g .sizes .vars) 0))
+              all-zero (g .sizes .vars) (set (b .seen) (var p) 0) (length-set (b .seen) (var p) 0 ∙ seen-length)
               (λ v i. split (same? v (var p))
-              (λ e. ap (λ j. getD (set (b .seen) (var p) 0) j 0) e ∙ getD-set-same (b .seen) (var p) 0 0 (omega (arith, seen-length, explain-var)) ∙ sym (zeros (g .sizes .vars) v))
-              (λ ne. getD-set-other (b .seen) (var p) v 0 0 ne ∙ only-p v ne ∙ sym (zeros (g .sizes .vars) v)))
+              (λ e. ap (λ j. getD (set (b .seen) (var p) 0) j 0) e ∙ getD-set-same (b .seen) (var p) 0 0 (omega (arith, seen-length, explain-var)))
+              (λ ne. getD-set-other (b .seen) (var p) v 0 0 ne ∙ only-p v ne))
 
           -- p was put in before the walk
           same-items : {o : List ℕ} → Begins p o → with-items (with-items (x .final) (p ∷ [])) o ≡ with-items (x .final) o

@@ -12,15 +12,11 @@ use Rattle.model.specs.Intake.{add-clause}
 use Rattle.model.specs.Search as Search
 use Rattle.model.specs.Run.{answers, run}
 use Rattle.lawbase.specs.Basics.{Every, shrink}
+use Rattle.lawbase.specs.Range.{Ranged}
 use Rattle.watching.specs.Moves.{initial-watching}
 use Rattle.watching.specs.Intake.{intaken, intaken-level, add-clause-watching}
 use Rattle.ends.specs.Bounds.{Limited}
 use Rattle.ends.specs.Answer.{Idle, closed, ready, solve-short, solve-idle}
-
--- the literals of a record of v variables
-abbrev pub Ranged : ℕ → Record → Type 0
-Ranged v (clause c) = Every (λ p. p < 2 * v) c
-Ranged v (solve assumptions budget) = Every (λ p. p < 2 * v) assumptions
 
 closed-clause : (cfg : Config) (s : State) (c : List ℕ) → s .ok ≡ false → add-clause cfg s c .state .ok ≡ false
 unfolding add-clause

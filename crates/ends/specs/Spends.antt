@@ -13,6 +13,7 @@ use Rattle.model.specs.Intake.{Taken, add-clause}
 use Rattle.model.specs.Search.{Status, TRUE, FALSE, UNDEF, NO-STORAGE, Searched, Turn, most-conflicts, cause-budget, cause-no-storage, cells, answer-of, still-ok}
 use Rattle.model.specs.Search as Search
 use Rattle.lawbase.specs.Basics.{Every, shrink}
+use Rattle.lawbase.specs.Range.{Ranged}
 use Rattle.lawbase.specs.WellFormed.{WellFormed}
 use Rattle.assign.specs.Searching.{ok-formed}
 use Rattle.watching.specs.Attach.{attach-length}
@@ -24,7 +25,7 @@ use Rattle.ends.specs.Turns.{Then}
 use Rattle.ends.specs.Rounds.{Final}
 use Rattle.ends.specs.Bounds.{Limited, conflicts-had, conflicts-spent}
 use Rattle.ends.specs.Answer.{Idle, found-by, solve-cases, solve-idle, idle-found}
-use Rattle.ends.specs.Out.{Ranged, clause-idle, initial-idle}
+use Rattle.ends.specs.Out.{clause-idle, initial-idle}
 
 -- what a state may still spend: nothing, once the clauses are known to have no model
 unfoldable pub worth : Config → State → ℕ

@@ -9,18 +9,14 @@ use Rattle.model.specs.State.{State, Solver, initial, with-state}
 use Rattle.model.specs.Intake.{add-clause}
 use Rattle.model.specs.Search as Search
 use Rattle.lawbase.specs.Basics.{_∈_, Every, shrink}
+use Rattle.lawbase.specs.Range.{Ranged}
 use Rattle.lawbase.specs.WellFormed.{WellFormed}
 use Rattle.ends.specs.Bounds.{Limited}
-use Rattle.ends.specs.Out.{Ranged}
 use Rattle.sound.specs.Sound.{Ready, initial-ready}
 use Rattle.sound.specs.Taking.{add-ready}
 use Rattle.sound.specs.Solve.{solves}
-use Rattle.sound.specs.Run.{Fits, InRange}
+use Rattle.sound.specs.Run.{Fits}
 use Rattle.script.specs.Accepted.{Accepted, RecordFits, accepted-of}
-
-in-range : (v : ℕ) (r : Record) → RecordFits v r → InRange v r
-in-range v (clause c) f = f .literals
-in-range v (solve ps budget) f = f .0 .literals
 
 ranged : (v : ℕ) (r : Record) → RecordFits v r → Ranged v r
 ranged v (clause c) f = f .literals
@@ -32,7 +28,7 @@ module _ (s : List ℕ) (work activities out : ℕ) (a : Accepted s work activit
       record {
         variables = a .header-fits .variables;
         clauses = a .header-fits .clauses;
-        records = λ r i. in-range (header s .variables) r (a .records-fit r i);
+        records = λ r i. ranged (header s .variables) r (a .records-fit r i);
       }
 
   pub limited : Limited (header s)
@@ -61,7 +57,7 @@ pub record Between (cfg : Config) (x : Solver) : Type 0 where
   pub ready : Ready cfg book log (x .state)
 
 module _ {cfg : Config} (v : 2 * cfg .variables ≤ undef-lit) (small : cfg .max-clauses ≤ no-reason) where
-  pub left-ready : (rs : List Record) (x : Solver) → Every (InRange (cfg .variables)) rs → Between cfg x → Between cfg (left-by cfg rs x)
+  pub left-ready : (rs : List Record) (x : Solver) → Every (Ranged (cfg .variables)) rs → Between cfg x → Between cfg (left-by cfg rs x)
   unfolding left-by
   left-ready [] x f b = b
   left-ready (clause c ∷ rs) x f b =

@@ -7,11 +7,12 @@ use mathlib.Core.Path.{_≡_, refl, sym, ap, ap₂, _∙_}
 use mathlib.Core.Logic.{_≢_}
 use mathlib.Core.Bool.{Bool, true, false}
 use mathlib.Core.List.{List, [], _∷_, _++_}
-use lib.ListN.{length, getD, set, take, drop, replicate, length-set, length-replicate, getD-replicate, drop-of-length-le, List·getD-eq-default}
-use lib.Seq.{length-take-le, take-take, getD-take, take-suc-set, getD-set-same, getD-set-other, drop-cons, drop-set-lt, ext-getD}
+use lib.ListN.{length, getD, set, take, drop, replicate, length-set, drop-of-length-le, List·getD-eq-default}
+use lib.Seq.{length-take-le, take-take, getD-take, take-suc-set, getD-set-same, getD-set-other, drop-cons, drop-set-lt}
 use Rattle.model.specs.Final.{mem, insert}
 use Rattle.region.specs.Split.{split, total, put}
 use Rattle.region.specs.Laws.{set-in, get-in, split-length}
+use Rattle.region.specs.Table.{all-zero}
 use Rattle.region.specs.Whole.{split-same}
 use Rattle.litset.specs.declared.Size.{Size}
 use Rattle.litset.specs.declared.Head.{Head}
@@ -175,8 +176,7 @@ module _ (d : Size) (h : Head) (i : ℕ) (w : List ℕ) (c : Clearing d h i w) w
 module _ (d : Size) (w : List ℕ) (r : Room d (record { count = 0 }) (length w)) (zeros : (l : ℕ) → getD (flags d w) l 0 ≡ 0) where
   no-flags : flags d w ≡ replicate (d .lits) 0
   no-flags =
-      ext-getD 0 (flags d w) (replicate (d .lits) 0) (flags-length d (record { count = 0 }) w r ∙ sym (length-replicate (d .lits) 0))
-      (λ k g. zeros k ∙ sym (getD-replicate (d .lits) k 0 0 (omega (arith, flags-length d (record { count = 0 }) w r))))
+      all-zero (d .lits) (flags d w) (flags-length d (record { count = 0 }) w r) (λ k g. zeros k)
 
   -- and the cells for members are those of s
   none-holds : (s : Members) → getD (split (shape d) w) 1 [] ≡ s .item-cells → Holds d (record { count = 0 }) w (emptied (d .lits) s)

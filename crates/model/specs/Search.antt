@@ -106,7 +106,7 @@ module _ (cfg : Config) (assumptions : List ℕ) (budget : ℕ) where
         | ends r ↦ r
       ]
 
-  -- Rule 8. A search that another one follows has had a conflict.
+  -- Rule 8. A search that another one follows has had a conflict, so one more than the most conflicts is turns enough.
   unfoldable pub solve-internal : ℕ → ℕ → ℕ → Solver → Searched
   solve-internal zero curr-restarts conflicts x = record { solver = x; conflicts = conflicts; status = UNDEF }
   solve-internal (suc turns) curr-restarts conflicts x =

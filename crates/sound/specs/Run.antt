@@ -17,6 +17,7 @@ use Rattle.model.specs.Search as Search
 use Rattle.model.specs.Run.{answers, run}
 use Rattle.model.specs.Book.{all, has, in-range-of, is-common, Follows, No-model, Entry, at-clause, at-solve, fed, entries, cells-of, history, Demand-3}
 use Rattle.lawbase.specs.Basics.{Every, every-nil, every-cons, shrink}
+use Rattle.lawbase.specs.Range.{Ranged}
 use Rattle.book.specs.Booleans.{and, every-all}
 use Rattle.book.specs.Demand.{Honest, demand}
 use Rattle.sound.specs.Sound.{Ready, initial-ready}
@@ -26,16 +27,11 @@ use Rattle.sound.specs.Solve.{Told, solves}
 
 -- ---- what is asked of a script
 
--- the literals of a record are those of v variables
-abbrev pub InRange : ℕ → Record → Type 0
-InRange v (clause c) = Every (λ l. l < 2 * v) c
-InRange v (solve assumptions budget) = Every (λ l. l < 2 * v) assumptions
-
 -- what an accepted script has
 pub record Fits (cfg : Config) (rs : List Record) : Type 0 where
   pub variables : cfg .variables ≤ Limits.max-variables
   pub clauses : cfg .max-clauses ≤ Limits.max-clauses
-  pub records : Every (InRange (cfg .variables)) rs
+  pub records : Every (Ranged (cfg .variables)) rs
 
 -- ---- what is shown of each record
 
@@ -110,7 +106,7 @@ fair-solve n book ps budget rs answer out rb ra t h =
 -- ---- all of them
 
 module _ (cfg : Config) (small : cfg .variables ≤ Limits.max-variables) (few : cfg .max-clauses ≤ Limits.max-clauses) where
-  answers-fair : (rs : List Record) → Every (InRange (cfg .variables)) rs → (x : Solver) (book log : List (List ℕ)) → Ready cfg book log (x .state)
+  answers-fair : (rs : List Record) → Every (Ranged (cfg .variables)) rs → (x : Solver) (book log : List (List ℕ)) → Ready cfg book log (x .state)
       → FairAll (cfg .variables) book rs (answers cfg rs x)
   unfolding answers entries cells-of
   answers-fair [] r x book log k = record { each = every-nil (Fair (cfg .variables)); whole = refl }
@@ -125,7 +121,7 @@ module _ (cfg : Config) (small : cfg .variables ≤ Limits.max-variables) (few :
       (k .sound .range) (r (solve ps budget) (here refl)) (z .told)
       (answers-fair rs (shrink r) (Search.solve cfg x ps budget .solver) book (z .log) (z .ready))
 
-  run-fair : (rs : List Record) → Every (InRange (cfg .variables)) rs → FairAll (cfg .variables) [] rs (run cfg rs)
+  run-fair : (rs : List Record) → Every (Ranged (cfg .variables)) rs → FairAll (cfg .variables) [] rs (run cfg rs)
   unfolding run initial
   run-fair rs r = answers-fair rs r (initial (cfg .variables)) [] [] (initial-ready cfg)
 

@@ -4,8 +4,7 @@ use native.Mathlib.Omega.{arith}
 use mathlib.Core.Bool.{true}
 use mathlib.Core.Path.{_≡_, refl, sym, ap, ap₂, subst, _∙_}
 use mathlib.Core.List.{List, [], _∷_, _++_}
-use lib.ListN.{length, getD, set, take, drop, replicate, length-replicate, getD-replicate}
-use lib.Seq.{ext-getD}
+use lib.ListN.{length, getD, set, take, drop, replicate}
 use Rattle.region.specs.Split.{split, base}
 use Rattle.region.specs.Laws.{split-length}
 use Rattle.model.specs.State.{initial-state}
@@ -145,10 +144,3 @@ started d w w₁ w₂ w₃ w₄ w₅ t s f room a b c e g =
     let store : Unstored d s (getD (split (shape d) w) 3 []) (e .block) = subst (λ (z : List ℕ). Unstored d s z (e .block)) (ap (λ (ps : List (List ℕ)). getD ps 3 []) p₃) (e .holds) in
     let finals : Unexplained d f (getD (split (shape d) w) 4 []) (g .block) = subst (λ (z : List ℕ). Unexplained d f z (g .block)) (ap (λ (ps : List (List ℕ)). getD ps 4 []) p₄) (g .holds) in
     all-filled d t s f (a .block ∷ b .block ∷ c .block ∷ e .block ∷ g .block ∷ []) (split (shape d) w) (a .holds) scratch watches store finals w w₅ (rw size room) refl p₅ rest
-
--- ---- every cell 0
-
-pub all-zero : (s : List ℕ) (n : ℕ) → length s ≡ n → ((k : ℕ) → k < n → getD s k 0 ≡ 0) → s ≡ replicate n 0
-all-zero s n e z =
-    ext-getD 0 s (replicate n 0) (e ∙ sym (length-replicate n 0))
-    (λ k h. let b : k < n = omega arith in z k b ∙ sym (getD-replicate n k 0 0 b))

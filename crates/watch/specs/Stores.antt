@@ -6,10 +6,10 @@ use native.Mathlib.Decide.{ℕ-discrete}
 use mathlib.Core.Path.{_≡_, refl, sym, ap, _∙_, subst}
 use mathlib.Core.Logic.{_≢_}
 use mathlib.Core.List.{List, [], _∷_, _++_}
-use lib.ListN.{length, getD, set, replicate, length-replicate, getD-replicate}
-use lib.Seq.{ext-getD, getD-set-same, getD-set-other}
+use lib.ListN.{length, getD, set, replicate}
+use lib.Seq.{getD-set-same, getD-set-other}
 use borrow.Author.Tests.{eq-eqb, ne-eqb}
-use Rattle.region.specs.Table.{sumOf}
+use Rattle.region.specs.Table.{all-zero, sumOf}
 use Rattle.watch.specs.Count.{occ, over}
 use Rattle.watch.specs.View.{Chains, Free, Next, Tails, Cells, with-head, with-tail, with-count, with-next, with-blocker, with-counts, cells, Laid, chains, Linked, Room, Rep, Holds, Watches, list-of, view, pack, without, place, cells-appended, appended, cells-unlinked, unlinked, moved, blocked, emptied}
 use Rattle.watch.specs.Laws.{node-below, list-small, list-room, one-place, place-at, list-once, chains-append, chains-without, free-without}
@@ -206,11 +206,6 @@ module _ (d : Lists) (w : List ℕ) (k : Rep d w) (l : ℕ) (hl : l < d .slots) 
 -- every cell but the lengths is the same
 abbrev pub Others : Cells → Cells → Type 0
 Others c c′ = (ns : List ℕ) → with-counts ns c′ ≡ with-counts ns c
-
-all-zero : (n : ℕ) (xs : List ℕ) → length xs ≡ n → ((l : ℕ) → l < n → getD xs l 0 ≡ 0) → xs ≡ replicate n 0
-all-zero n xs e z =
-    ext-getD 0 xs (replicate n 0) (e ∙ sym (length-replicate n 0))
-    (λ k h. let b : k < n = omega arith in z k b ∙ sym (getD-replicate n k 0 0 b))
 
 empty-lists : (f : List ℕ → ℕ) → f [] ≡ 0 → (n : ℕ) → sumOf f (replicate n []) ≡ 0
 empty-lists f e zero = refl

@@ -3,7 +3,7 @@ use native.Mathlib.Omega.{arith}
 use mathlib.Core.Path.{_≡_, refl, _∙_}
 use lib.ListN.{length, getD, length-set}
 use Rattle.litset.specs.Laws.{zeros-more}
-use Rattle.state.specs.StartLaws.{all-zero}
+use Rattle.region.specs.Table.{all-zero}
 use Rattle.state.proofs.start.clear.Statement.{statement}
 use Rattle.state.proofs.start.clear.Tie as tie
 
@@ -39,7 +39,7 @@ same-length c = c .before .loop .inv .1
 returns : tie.Need-returns Inv-loop μ-loop
 returns c =
     let l = c .before .loop in
-    all-zero (l .work) _ (l .inv .1) (λ k h. l .inv .2 k (omega arith))
+    all-zero _ (l .work) (l .inv .1) (λ k h. l .inv .2 k (omega arith))
 
 pub clear-spec : {M : Type 1} → statement M
 clear-spec =

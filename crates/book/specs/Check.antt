@@ -9,10 +9,10 @@ use lib.ListN.{length, getD}
 use lib.Dec.{T, leb, ltb, eqb, eqb→eq, leb→le, eqb-refl, eqb·zero-suc, eqb·suc-zero, eqb·suc-suc, leb·suc-suc, leb·suc-zero}
 use Rattle.model.specs.Lit.{neg}
 use Rattle.model.specs.Script.{header, records-of}
-use Rattle.model.specs.Book.{all, any, has, holds, in-range-of, is-row, is-model, is-common, Follows, No-model, Entry, at-clause, at-solve, history, cells-of, TRUE, FALSE, UNDEF, Clause-in, Solve-in, Demand-3}
+use Rattle.model.specs.Book.{all, any, has, holds, in-range-of, is-row, is-model, is-common, Follows, No-model, Entry, at-clause, at-solve, history, cells-of, TRUE, FALSE, UNDEF, is-cause, Demand-3}
 use Rattle.lawbase.specs.Basics.{_∈_, Every}
 use Rattle.book.specs.Booleans.{both, and, all-every}
-use Rattle.book.specs.Demand.{Honest, demand}
+use Rattle.book.specs.Demand.{FairClause, FairSolve, Fair, Honest, demand}
 
 -- all rows of v variables
 unfoldable pub rows : ℕ → List (List ℕ)
@@ -51,11 +51,6 @@ follows? v book c = all (λ row. implies (is-model row book) (any (holds row) c)
 unfoldable pub no-model? : ℕ → List (List ℕ) → Bool
 no-model? v book = all (λ row. implies (is-model row book) false) (rows v)
 
-unfoldable pub cause? : List ℕ → Bool
-cause? [] = false
-cause? (x ∷ []) = eqb x 1 || eqb x 2
-cause? (x ∷ y ∷ ys) = false
-
 unfoldable pub clause? : ℕ → List (List ℕ) → List ℕ → ℕ → Bool
 clause? v book c answer = leb answer 2 && implies (eqb answer 0) (no-model? v (book ++ (c ∷ [])))
 
@@ -74,14 +69,14 @@ module _ (v : ℕ) (book : List (List ℕ)) (assumptions : List ℕ) (answer : �
   false? = implies (eqb answer FALSE) (negated? && follows? v book body)
 
   abbrev pub undef? : Bool
-  undef? = implies (eqb answer UNDEF) (cause? body)
+  undef? = implies (eqb answer UNDEF) (is-cause body)
 
   unfoldable pub solve? : Bool
   solve? = in-range? && (leb answer 2 && (true? && (false? && undef?)))
 
 unfoldable pub entry? : ℕ → Entry → Bool
-entry? v (at-clause book c answer) = clause? v book c answer
-entry? v (at-solve book assumptions answer body) = solve? v book assumptions answer body
+entry? v (at-clause e) = clause? v (e .book) (e .clause) (e .answer)
+entry? v (at-solve e) = solve? v (e .book) (e .assumptions) (e .answer) (e .body)
 
 unfoldable pub checks : List ℕ → List ℕ → Bool
 checks script out = eqb (cells-of (records-of script) out) (length out) && all (entry? (header script .variables)) (history script out)
@@ -97,73 +92,53 @@ no-model : (v : ℕ) (book : List (List ℕ)) → T (no-model? v book) → No-mo
 unfolding no-model?
 no-model v book h row r m = implied (is-model row book) false (all-every (λ x. implies (is-model x book) false) (rows v) h row (rows-all v row r)) m
 
-either : (a b : Bool) → T (a || b) → T a ⊎ T b
-either true b h = inl tt
-either false b h = inr h
+when : (a n : ℕ) (b : Bool) → T (implies (eqb a n) b) → a ≡ n → T b
+when a n b h e = implied (eqb a n) b h (subst (λ x. T (eqb a x)) e (eqb-refl a))
 
-cause : (body : List ℕ) → T (cause? body) → (body ≡ 1 ∷ []) ⊎ (body ≡ 2 ∷ [])
-unfolding cause?
-cause [] h = absurd h
-cause (x ∷ []) h = ⊎-elim (λ e. inl (ap (λ y. y ∷ []) (eqb→eq x 1 e))) (λ e. inr (ap (λ y. y ∷ []) (eqb→eq x 2 e))) (either (eqb x 1) (eqb x 2) h)
-cause (x ∷ y ∷ ys) h = absurd h
+fair-clause : (v : ℕ) (book : List (List ℕ)) (c : List ℕ) (answer : ℕ) → T (clause? v book c answer) → FairClause v book c answer
+unfolding clause?
+fair-clause v book c answer h =
+    let none = no-model? v (book ++ (c ∷ [])) in
+    let a = both (leb answer 2) (implies (eqb answer 0) none) h in
+    record { known = leb→le answer 2 (a .0); no-model = λ e. no-model v (book ++ (c ∷ [])) (when answer 0 none (a .1) e) }
 
-pub record Passed (v : ℕ) (book : List (List ℕ)) (assumptions : List ℕ) (answer : ℕ) (body : List ℕ) : Type 0 where
-  pub in-range : T (all (all (in-range-of v)) book && all (in-range-of v) assumptions)
-  pub known : answer ≤ 2
-  pub common : T (eqb answer TRUE) → T (is-common v book assumptions body)
-  pub negated : T (eqb answer FALSE) → T (all (λ l. has assumptions (neg l)) body)
-  pub final : T (eqb answer FALSE) → Follows v book body
-  pub stopped : T (eqb answer UNDEF) → (body ≡ 1 ∷ []) ⊎ (body ≡ 2 ∷ [])
+fair-solve : (v : ℕ) (book : List (List ℕ)) (assumptions : List ℕ) (answer : ℕ) (body : List ℕ) → T (solve? v book assumptions answer body)
+    → FairSolve v book assumptions answer body
+unfolding solve?
+fair-solve v book assumptions answer body h =
+    let t = true? v book assumptions answer body in
+    let f = false? v book assumptions answer body in
+    let u = undef? v book assumptions answer body in
+    let n = negated? v book assumptions answer body in
+    let a = both (in-range? v book assumptions answer body) (leb answer 2 && (t && (f && u))) h in
+    let b = both (leb answer 2) (t && (f && u)) (a .1) in
+    let c = both t (f && u) (b .1) in
+    let d = both f u (c .1) in
+    record {
+      in-range = a .0;
+      known = leb→le answer 2 (b .0);
+      true-shows = when answer TRUE (is-common v book assumptions body) (c .0);
+      final-negated = λ e. both n (follows? v book body) (when answer FALSE (n && follows? v book body) (d .0) e) .0;
+      final-follows = λ e. follows v book body (both n (follows? v book body) (when answer FALSE (n && follows? v book body) (d .0) e) .1);
+      stopped-cause = when answer UNDEF (is-cause body) (d .1);
+    }
 
-module _ (v : ℕ) (book : List (List ℕ)) (assumptions : List ℕ) (answer : ℕ) (body : List ℕ) where
-  passed : T (solve? v book assumptions answer body) → Passed v book assumptions answer body
-  unfolding solve?
-  passed h =
-      let t = true? v book assumptions answer body in
-      let f = false? v book assumptions answer body in
-      let u = undef? v book assumptions answer body in
-      let n = negated? v book assumptions answer body in
-      let a = both (in-range? v book assumptions answer body) (leb answer 2 && (t && (f && u))) h in
-      let b = both (leb answer 2) (t && (f && u)) (a .1) in
-      let c = both t (f && u) (b .1) in
-      let d = both f u (c .1) in
-      record {
-        in-range = a .0;
-        known = leb→le answer 2 (b .0);
-        common = implied (eqb answer TRUE) (is-common v book assumptions body) (c .0);
-        negated = λ e. both n (follows? v book body) (implied (eqb answer FALSE) (n && follows? v book body) (d .0) e) .0;
-        final = λ e. follows v book body (both n (follows? v book body) (implied (eqb answer FALSE) (n && follows? v book body) (d .0) e) .1);
-        stopped = λ e. cause body (implied (eqb answer UNDEF) (cause? body) (d .1) e);
-      }
+fair : (v : ℕ) (e : Entry) → T (entry? v e) → Fair v e
+unfolding entry?
+fair v (at-clause e) h = fair-clause v (e .book) (e .clause) (e .answer) h
+fair v (at-solve e) h = fair-solve v (e .book) (e .assumptions) (e .answer) (e .body) h
 
 module _ (script out : List ℕ) (h : T (checks script out)) where
   abbrev v : ℕ
   v = header script .variables
 
-  parts : T (eqb (cells-of (records-of script) out) (length out)) × T (all (entry? v) (history script out))
-  unfolding checks
-  parts = both (eqb (cells-of (records-of script) out) (length out)) (all (entry? v) (history script out)) h
-
-  at-a-clause : (book : List (List ℕ)) (c : List ℕ) (answer : ℕ) → Clause-in script out book c answer → T (leb answer 2) × T (implies (eqb answer 0) (no-model? v (book ++ (c ∷ []))))
-  unfolding entry? clause?
-  at-a-clause book c answer i = both (leb answer 2) (implies (eqb answer 0) (no-model? v (book ++ (c ∷ [])))) (all-every (entry? v) (history script out) (parts .1) (at-clause book c answer) i)
-
-  at-a-solve : (book : List (List ℕ)) (assumptions : List ℕ) (answer : ℕ) (body : List ℕ) → Solve-in script out book assumptions answer body → Passed v book assumptions answer body
-  unfolding entry?
-  at-a-solve book assumptions answer body i = passed v book assumptions answer body (all-every (entry? v) (history script out) (parts .1) (at-solve book assumptions answer body) i)
-
   pub honest : Honest script out
+  unfolding checks
   honest =
+      let p = both (eqb (cells-of (records-of script) out) (length out)) (all (entry? v) (history script out)) h in
       record {
-        whole = eqb→eq (cells-of (records-of script) out) (length out) (parts .0);
-        in-range = λ book assumptions answer body i. at-a-solve book assumptions answer body i .in-range;
-        clause-answer = λ book c answer i. leb→le answer 2 (at-a-clause book c answer i .0);
-        clause-no-model = λ book c i. no-model v (book ++ (c ∷ [])) (implied (eqb 0 0) (no-model? v (book ++ (c ∷ []))) (at-a-clause book c 0 i .1) tt);
-        solve-answer = λ book assumptions answer body i. at-a-solve book assumptions answer body i .known;
-        true-shows = λ book assumptions body i. at-a-solve book assumptions TRUE body i .common tt;
-        final-negated = λ book assumptions body i. at-a-solve book assumptions FALSE body i .negated tt;
-        final-follows = λ book assumptions body i. at-a-solve book assumptions FALSE body i .final tt;
-        stopped-cause = λ book assumptions body i. at-a-solve book assumptions UNDEF body i .stopped tt;
+        whole = eqb→eq (cells-of (records-of script) out) (length out) (p .0);
+        each = λ e i. fair v e (all-every (entry? v) (history script out) (p .1) e i);
       }
 
   pub shows : Demand-3 script out

@@ -10,26 +10,50 @@ use lib.ListN.{length, getD}
 use lib.Dec.{T, leb, ltb, eqb, eqb→eq, eqb-refl, ltb→lt, lt→ltb, leb→le, le→leb}
 use Rattle.model.specs.Lit.{var, sign, neg}
 use Rattle.model.specs.Script.{header, records-of}
-use Rattle.model.specs.Book.{all, any, has, holds, in-range-of, is-row, is-model, is-common, Common, Follows, No-model, same-literals, has-clause, same-clauses, Entry, at-clause, at-solve, history, cells-of, TRUE, FALSE, UNDEF, Clause-in, Solve-in, Answers, Same-verdict, Demand-3}
+use Rattle.model.specs.Book.{all, any, has, holds, in-range-of, is-row, is-model, is-common, Common, Follows, No-model, same-literals, has-clause, same-clauses, book-of, Clause-entry, Solve-entry, Entry, at-clause, at-solve, history, cells-of, TRUE, FALSE, UNDEF, causes, is-cause, Clause-in, Solve-in, Answers, Same-verdict, Demand-3}
 use Rattle.lawbase.specs.Basics.{_∈_, Every, split, same?}
 use Rattle.book.specs.Booleans.{both, and, all-every, every-all, any-some, some-any, has-in, in-has, holds-eq, eq-holds, not-both}
 
+-- a clause and its answer, after the clauses
+pub record FairClause (v : ℕ) (clauses : List (List ℕ)) (c : List ℕ) (answer : ℕ) : Type 0 where
+  pub known : answer ≤ 2
+  pub no-model : answer ≡ 0 → No-model v (clauses ++ (c ∷ []))
+
+-- a solve and its answer, after the clauses
+pub record FairSolve (v : ℕ) (clauses : List (List ℕ)) (assumptions : List ℕ) (answer : ℕ) (body : List ℕ) : Type 0 where
+  pub in-range : T (all (all (in-range-of v)) clauses && all (in-range-of v) assumptions)
+  pub known : answer ≤ 2
+  pub true-shows : answer ≡ TRUE → T (is-common v clauses assumptions body)
+  pub final-negated : answer ≡ FALSE → T (all (λ l. has assumptions (neg l)) body)
+  pub final-follows : answer ≡ FALSE → Follows v clauses body
+  pub stopped-cause : answer ≡ UNDEF → T (is-cause body)
+
+-- a record and its answer, by the book
+abbrev pub Fair : ℕ → Entry → Type 0
+Fair v (at-clause e) = FairClause v (e .book) (e .clause) (e .answer)
+Fair v (at-solve e) = FairSolve v (e .book) (e .assumptions) (e .answer) (e .body)
+
 pub record Honest (script out : List ℕ) : Type 0 where
   pub whole : cells-of (records-of script) out ≡ length out
-  pub in-range : (book : List (List ℕ)) (assumptions : List ℕ) (answer : ℕ) (body : List ℕ) → Solve-in script out book assumptions answer body
-      → T (all (all (in-range-of (header script .variables))) book && all (in-range-of (header script .variables)) assumptions)
-  pub clause-answer : (book : List (List ℕ)) (c : List ℕ) (answer : ℕ) → Clause-in script out book c answer → answer ≤ 2
-  pub clause-no-model : (book : List (List ℕ)) (c : List ℕ) → Clause-in script out book c 0 → No-model (header script .variables) (book ++ (c ∷ []))
-  pub solve-answer : (book : List (List ℕ)) (assumptions : List ℕ) (answer : ℕ) (body : List ℕ) → Solve-in script out book assumptions answer body
-      → answer ≤ 2
-  pub true-shows : (book : List (List ℕ)) (assumptions : List ℕ) (body : List ℕ) → Solve-in script out book assumptions TRUE body
-      → T (is-common (header script .variables) book assumptions body)
-  pub final-negated : (book : List (List ℕ)) (assumptions : List ℕ) (body : List ℕ) → Solve-in script out book assumptions FALSE body
-      → T (all (λ l. has assumptions (neg l)) body)
-  pub final-follows : (book : List (List ℕ)) (assumptions : List ℕ) (body : List ℕ) → Solve-in script out book assumptions FALSE body
-      → Follows (header script .variables) book body
-  pub stopped-cause : (book : List (List ℕ)) (assumptions : List ℕ) (body : List ℕ) → Solve-in script out book assumptions UNDEF body
-      → (body ≡ 1 ∷ []) ⊎ (body ≡ 2 ∷ [])
+  pub each : Every (Fair (header script .variables)) (history script out)
+
+-- the book has all the clauses taken, and no others
+pub book-taken : (taken : List (List ℕ)) → book-of taken ≡ taken
+unfolding book-of
+book-taken taken = refl
+
+-- ---- a cause
+
+one-cell : (body : List ℕ) → length body ≡ 1 → body ≡ getD body 0 0 ∷ []
+one-cell [] e = absurd (omega (arith, e))
+one-cell (x ∷ []) e = refl
+one-cell (x ∷ y ∷ ys) e = absurd (omega (arith, e))
+
+pub cause-in : (body : List ℕ) → T (is-cause body) → (cause : ℕ) × (cause ∈ causes) × (body ≡ cause ∷ [])
+unfolding is-cause
+cause-in body h =
+    let b = both (eqb (length body) 1) (has causes (getD body 0 0)) h in
+    (getD body 0 0, has-in causes (getD body 0 0) (b .1), one-cell body (eqb→eq (length body) 1 (b .0)))
 
 -- ---- one solve
 
@@ -56,45 +80,41 @@ refuted v book assumptions body f n k =
     let i = has-in assumptions (neg (l .0)) (all-every (λ x. has assumptions (neg x)) body n (l .0) (l .1)) in
     not-both row (l .0) (l .2) (all-every (holds row) assumptions (c .2) (neg (l .0)) i)
 
-module _ (script out : List ℕ) (h : Honest script out) (book : List (List ℕ)) (assumptions : List ℕ) (answer : ℕ) (body : List ℕ) (i : Solve-in script out book assumptions answer body) where
-  given : (a : ℕ) → answer ≡ a → Solve-in script out book assumptions a body
-  given a e = subst (λ x. Solve-in script out book assumptions x body) e i
+module _ {v : ℕ} {book : List (List ℕ)} {assumptions : List ℕ} {answer : ℕ} {body : List ℕ} (f : FairSolve v book assumptions answer body) where
+  shown : answer ≡ TRUE → Common v book assumptions
+  shown e = (body, f .true-shows e)
 
-  shown : answer ≡ TRUE → Common (header script .variables) book assumptions
-  shown e = (body, h .true-shows book assumptions body (given TRUE e))
-
-  none : answer ≡ FALSE → Common (header script .variables) book assumptions → ⊥
-  none e =
-      refuted (header script .variables) book assumptions body (h .final-follows book assumptions body (given FALSE e)) (h .final-negated book assumptions body (given FALSE e))
+  none : answer ≡ FALSE → Common v book assumptions → ⊥
+  none e = refuted v book assumptions body (f .final-follows e) (f .final-negated e)
 
   verdict : answer ≢ UNDEF → (answer ≡ TRUE) ⊎ (answer ≡ FALSE)
-  verdict n = split (same? answer TRUE) inl (λ m. inr (omega (arith, h .solve-answer book assumptions answer body i)))
+  verdict n = split (same? answer TRUE) inl (λ m. inr (omega (arith, f .known)))
 
-  pub exactly : answer ≢ UNDEF → (answer ≡ TRUE) ↔ Common (header script .variables) book assumptions
+  pub exactly : answer ≢ UNDEF → (answer ≡ TRUE) ↔ Common v book assumptions
   exactly n = (shown, λ k. split (verdict n) (λ e. e) (λ e. absurd (none e k)))
 
-  pub otherwise : answer ≢ UNDEF → (answer ≡ FALSE) ↔ ¬ Common (header script .variables) book assumptions
+  pub otherwise : answer ≢ UNDEF → (answer ≡ FALSE) ↔ ¬ Common v book assumptions
   otherwise n = (none, λ k. split (verdict n) (λ e. absurd (k (shown e))) (λ e. e))
 
-empty-only : (v : ℕ) (book : List (List ℕ)) → Follows v book [] → No-model v book
-unfolding any
-empty-only v book f row r m = f row r m
+  empty-only : answer ≡ FALSE → body ≡ [] → No-model v book
+  unfolding any
+  empty-only a e row r m = subst (λ c. T (any (holds row) c)) e (f .final-follows a row r m)
 
 pub answers : (script out : List ℕ) → Honest script out → Answers script out
 answers script out h =
     record {
       whole = h .whole;
-      in-range = h .in-range;
-      clause-answer = h .clause-answer;
-      clause-no-model = h .clause-no-model;
-      solve-answer = h .solve-answer;
-      true-shows = h .true-shows;
-      true-exactly-when = exactly script out h;
-      false-otherwise = otherwise script out h;
-      final-negated = h .final-negated;
-      final-follows = h .final-follows;
-      final-empty-only = λ book assumptions i. empty-only (header script .variables) book (h .final-follows book assumptions [] i);
-      stopped-cause = h .stopped-cause;
+      in-range = λ e i. h .each (at-solve e) i .in-range;
+      clause-answer = λ e i. h .each (at-clause e) i .known;
+      clause-no-model = λ e i. h .each (at-clause e) i .no-model;
+      solve-answer = λ e i. h .each (at-solve e) i .known;
+      true-shows = λ e i. h .each (at-solve e) i .true-shows;
+      true-exactly-when = λ e i. exactly (h .each (at-solve e) i);
+      false-otherwise = λ e i. otherwise (h .each (at-solve e) i);
+      final-negated = λ e i. h .each (at-solve e) i .final-negated;
+      final-follows = λ e i. h .each (at-solve e) i .final-follows;
+      final-empty-only = λ e i. empty-only (h .each (at-solve e) i);
+      stopped-cause = λ e i. h .each (at-solve e) i .stopped-cause;
     }
 
 -- ---- two solves
@@ -187,28 +207,21 @@ literals-sym a b h = swap-same (all (has b) a) (all (has a) b) h
 
 -- TRUE in the one gives TRUE in the other
 module _ (script out script′ out′ : List ℕ) (h : Answers script out) (h′ : Answers script′ out′) where
-  carries : (book book′ : List (List ℕ)) (assumptions assumptions′ : List ℕ) (answer answer′ : ℕ) (body body′ : List ℕ)
-      → Solve-in script out book assumptions answer body
-      → Solve-in script′ out′ book′ assumptions′ answer′ body′
-      → answer ≢ UNDEF
-      → answer′ ≢ UNDEF
-      → T (same-clauses book book′)
-      → T (same-literals assumptions assumptions′)
-      → answer ≡ TRUE
-      → answer′ ≡ TRUE
-  carries book book′ assumptions assumptions′ answer answer′ body body′ i i′ n n′ sb sa e =
+  carries : (e e′ : Solve-entry) → Solve-in script out e → Solve-in script′ out′ e′ → e .answer ≢ UNDEF → e′ .answer ≢ UNDEF
+      → T (same-clauses (e .book) (e′ .book)) → T (same-literals (e .assumptions) (e′ .assumptions)) → e .answer ≡ TRUE → e′ .answer ≡ TRUE
+  carries e e′ i i′ n n′ sb sa t =
       let v = header script′ .variables in
-      let r = both (all (all (in-range-of v)) book′) (all (in-range-of v) assumptions′) (h′ .in-range book′ assumptions′ answer′ body′ i′) in
-      h′ .true-exactly-when book′ assumptions′ answer′ body′ i′ n′ .1
-      (carried v (header script .variables) book book′ assumptions assumptions′ sb sa (r .0) (r .1) (h .true-exactly-when book assumptions answer body i n .0 e))
+      let r = both (all (all (in-range-of v)) (e′ .book)) (all (in-range-of v) (e′ .assumptions)) (h′ .in-range e′ i′) in
+      h′ .true-exactly-when e′ i′ n′ .1
+      (carried v (header script .variables) (e .book) (e′ .book) (e .assumptions) (e′ .assumptions) sb sa (r .0) (r .1) (h .true-exactly-when e i n .0 t))
 
 pub agree : (script out script′ out′ : List ℕ) → Answers script out → Answers script′ out′ → Same-verdict script out script′ out′
-agree script out script′ out′ h h′ book book′ assumptions assumptions′ answer answer′ body body′ i i′ n n′ sb sa =
-    split (same? answer TRUE)
-    (λ e. e ∙ sym (carries script out script′ out′ h h′ book book′ assumptions assumptions′ answer answer′ body body′ i i′ n n′ sb sa e))
-    (λ m. split (same? answer′ TRUE)
-    (λ e. absurd (m (carries script′ out′ script out h′ h book′ book assumptions′ assumptions answer′ answer body′ body i′ i n′ n (clauses-sym book book′ sb) (literals-sym assumptions assumptions′ sa) e)))
-    (λ m′. omega (arith, h .solve-answer book assumptions answer body i, h′ .solve-answer book′ assumptions′ answer′ body′ i′)))
+agree script out script′ out′ h h′ e e′ i i′ n n′ sb sa =
+    split (same? (e .answer) TRUE)
+    (λ t. t ∙ sym (carries script out script′ out′ h h′ e e′ i i′ n n′ sb sa t))
+    (λ m. split (same? (e′ .answer) TRUE)
+    (λ t. absurd (m (carries script′ out′ script out h′ h e′ e i′ i n′ n (clauses-sym (e .book) (e′ .book) sb) (literals-sym (e .assumptions) (e′ .assumptions) sa) t)))
+    (λ m′. omega (arith, h .solve-answer e i, h′ .solve-answer e′ i′)))
 
 pub demand : (script out : List ℕ) → Honest script out → Demand-3 script out
 demand script out h =

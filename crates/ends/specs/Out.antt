@@ -2,15 +2,14 @@
 use mathlib.Core.Path.{_≡_, refl}
 use mathlib.Core.Bool.{false}
 use mathlib.Core.List.{List, [], _∷_, List·Memᴰ·head as here}
-use Prim.Native.Nat.{ℕ, _*_, _≤_, _<_}
+use Prim.Native.Nat.{ℕ, _+_, _*_, _≤_, _<_}
 use native.Mathlib.Omega.{arith}
 use lib.ListN.{length, length-append}
 use Rattle.model.specs.Lit.{undef-lit}
 use Rattle.model.specs.Script.{Config, Record, clause, solve, out-needed}
-use Rattle.model.specs.State.{State, Solver, initial-state, initial, with-state}
+use Rattle.model.specs.State.{State, Solver, initial-state, initial}
 use Rattle.model.specs.Intake.{add-clause}
-use Rattle.model.specs.Search as Search
-use Rattle.model.specs.Run.{answers, run}
+use Rattle.model.specs.Run.{step, answers, run}
 use Rattle.lawbase.specs.Basics.{Every, shrink}
 use Rattle.lawbase.specs.Range.{Ranged}
 use Rattle.watching.specs.Moves.{initial-watching}
@@ -30,22 +29,33 @@ module _ {cfg : Config} (l : Limited cfg) where
       ready (add-clause-watching w z c r small)
       (omega (arith, intaken-level (add-clause cfg s c) (intaken cfg s c small r)))
 
+  -- ---- one record
+
+  pub step-idle : (r : Record) (x : Solver) → Ranged (cfg .variables) r → Idle cfg (x .state) → Idle cfg (step cfg r x .solver .state)
+  unfolding step
+  step-idle (clause c) x f h = clause-idle (x .state) c f h
+  step-idle (solve ps budget) x f h = solve-idle l x ps f budget h
+
+  -- its cells are never more than it asks of out
+  pub step-short : (r : Record) (x : Solver) (rs : List Record) → Ranged (cfg .variables) r → Idle cfg (x .state)
+      → length (step cfg r x .answer) + out-needed (cfg .variables) rs ≤ out-needed (cfg .variables) (r ∷ rs)
+  unfolding step out-needed
+  step-short (clause c) x rs f h = omega arith
+  step-short (solve ps budget) x rs f h = omega (arith, solve-short l x ps f budget h)
+
+  -- ---- all records
+
   pub answers-short : (rs : List Record) (x : Solver) → Every (Ranged (cfg .variables)) rs → Idle cfg (x .state)
       → length (answers cfg rs x) ≤ out-needed (cfg .variables) rs
-  unfolding answers out-needed
+  unfolding answers
   answers-short [] x f h = omega arith
-  answers-short (clause c ∷ rs) x f h =
+  answers-short (r ∷ rs) x f h =
+      let g = f r (here refl) in
       omega (
         arith,
-        answers-short rs (with-state x (add-clause cfg (x .state) c .state)) (shrink f) (clause-idle (x .state) c (f (clause c) (here refl)) h),
-      )
-  answers-short (solve ps budget ∷ rs) x f h =
-      let r = f (solve ps budget) (here refl) in
-      omega (
-        arith,
-        length-append (Search.solve cfg x ps budget .answer) (answers cfg rs (Search.solve cfg x ps budget .solver)),
-        solve-short l x ps r budget h,
-        answers-short rs (Search.solve cfg x ps budget .solver) (shrink f) (solve-idle l x ps r budget h),
+        length-append (step cfg r x .answer) (answers cfg rs (step cfg r x .solver)),
+        step-short r x rs g h,
+        answers-short rs (step cfg r x .solver) (shrink f) (step-idle r x g h),
       )
 
   pub initial-idle : Idle cfg (initial (cfg .variables) .state)

@@ -7,11 +7,12 @@ use native.Mathlib.Omega.{arith}
 use lib.ListN.{getD}
 use Rattle.model.specs.Lit.{undef-lit, no-reason, l-true, l-false, l-undef}
 use Rattle.model.specs.Script.{Config, Record, clause, solve}
-use Rattle.model.specs.State.{State, Solver, with-ok, initial, with-state}
+use Rattle.model.specs.State.{State, Solver, with-ok, initial}
 use Rattle.model.specs.Trail.{cancel-until}
 use Rattle.model.specs.Intake.{Taken, add-clause}
 use Rattle.model.specs.Search.{Status, TRUE, FALSE, UNDEF, NO-STORAGE, Searched, Turn, most-conflicts, cause-budget, cause-no-storage, cells, answer-of, still-ok}
 use Rattle.model.specs.Search as Search
+use Rattle.model.specs.Run.{step}
 use Rattle.lawbase.specs.Basics.{Every, shrink}
 use Rattle.lawbase.specs.Range.{Ranged}
 use Rattle.lawbase.specs.WellFormed.{WellFormed}
@@ -25,7 +26,7 @@ use Rattle.ends.specs.Turns.{Then}
 use Rattle.ends.specs.Rounds.{Final}
 use Rattle.ends.specs.Bounds.{Limited, conflicts-had, conflicts-spent}
 use Rattle.ends.specs.Answer.{Idle, found-by, solve-cases, solve-idle, idle-found}
-use Rattle.ends.specs.Out.{clause-idle, initial-idle}
+use Rattle.ends.specs.Out.{step-idle, initial-idle}
 
 -- what a state may still spend: nothing, once the clauses are known to have no model
 unfoldable pub worth : Config → State → ℕ
@@ -139,40 +140,45 @@ module _ {cfg : Config} (l : Limited cfg) (x : Solver) (ps : List ℕ) (range : 
         worth-credit cfg (cancel-until (cfg .phase) (still-ok (r .status) (r .solver .state)) 0),
       ))
 
+-- ---- a record
+
+-- the conflicts that an answer tells
+unfoldable pub told-conflicts : Record → List ℕ → ℕ
+told-conflicts (clause c) answer = 0
+told-conflicts (solve ps budget) answer = getD answer 1 0
+
+-- how many solves a record is
+unfoldable pub solve-count : Record → ℕ
+solve-count (clause c) = 0
+solve-count (solve ps budget) = 1
+
+module _ {cfg : Config} (l : Limited cfg) where
+  pub step-spends : (r : Record) (x : Solver) → Ranged (cfg .variables) r → Idle cfg (x .state)
+      → told-conflicts r (step cfg r x .answer) + worth cfg (step cfg r x .solver .state) ≤ worth cfg (x .state) + solve-count r
+  unfolding step told-conflicts solve-count
+  step-spends (clause c) x f h =
+      omega (arith, clause-worth (add-clause cfg (x .state) c) (intaken cfg (x .state) c (omega (arith, l .variables)) f))
+  step-spends (solve ps budget) x f h = omega (arith, solve-spends l x ps f budget h)
+
 -- ---- a run
 
 -- the conflicts of its solves, by their answers
 unfoldable pub run-conflicts : Config → List Record → Solver → ℕ
 run-conflicts cfg [] x = 0
-run-conflicts cfg (clause c ∷ rs) x = run-conflicts cfg rs (with-state x (add-clause cfg (x .state) c .state))
-run-conflicts cfg (solve ps budget ∷ rs) x =
-    getD (Search.solve cfg x ps budget .answer) 1 0 + run-conflicts cfg rs (Search.solve cfg x ps budget .solver)
+run-conflicts cfg (r ∷ rs) x = told-conflicts r (step cfg r x .answer) + run-conflicts cfg rs (step cfg r x .solver)
 
 unfoldable pub solves : List Record → ℕ
 solves [] = 0
-solves (clause c ∷ rs) = solves rs
-solves (solve ps budget ∷ rs) = suc (solves rs)
+solves (r ∷ rs) = solve-count r + solves rs
 
 module _ {cfg : Config} (l : Limited cfg) where
   pub answers-spend : (rs : List Record) (x : Solver) → Every (Ranged (cfg .variables)) rs → Idle cfg (x .state)
       → run-conflicts cfg rs x ≤ worth cfg (x .state) + solves rs
   unfolding run-conflicts solves
   answers-spend [] x f h = omega arith
-  answers-spend (clause c ∷ rs) x f h =
-      let r = f (clause c) (here refl) in
-      let small : 2 * cfg .variables ≤ undef-lit = omega (arith, l .variables) in
-      omega (
-        arith,
-        answers-spend rs (with-state x (add-clause cfg (x .state) c .state)) (shrink f) (clause-idle l (x .state) c r h),
-        clause-worth (add-clause cfg (x .state) c) (intaken cfg (x .state) c small r),
-      )
-  answers-spend (solve ps budget ∷ rs) x f h =
-      let r = f (solve ps budget) (here refl) in
-      omega (
-        arith,
-        answers-spend rs (Search.solve cfg x ps budget .solver) (shrink f) (solve-idle l x ps r budget h),
-        solve-spends l x ps r budget h,
-      )
+  answers-spend (r ∷ rs) x f h =
+      let g = f r (here refl) in
+      omega (arith, answers-spend rs (step cfg r x .solver) (shrink f) (step-idle l r x g h), step-spends l r x g h)
 
   -- the clauses, the variables, and one for each solve
   pub run-spends : (rs : List Record) → Every (Ranged (cfg .variables)) rs

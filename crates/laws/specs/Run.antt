@@ -3,19 +3,17 @@ use mathlib.Core.Path.{_≡_, refl, sym, subst}
 use mathlib.Core.List.{List, [], _∷_, _++_, List·Memᴰ·head as here, Memᴰ·append-left as in-left}
 use Prim.Native.Nat.{ℕ, _*_, _≤_, _<_}
 use native.Mathlib.Omega.{arith}
-use Rattle.model.specs.Lit.{no-reason, undef-lit}
+use Rattle.model.specs.Limits as Limits
 use Rattle.model.specs.Script.{Config, Record, clause, solve, accepted, header, records-of, read}
-use Rattle.model.specs.State.{State, Solver, initial, with-state}
-use Rattle.model.specs.Intake.{add-clause}
-use Rattle.model.specs.Search as Search
+use Rattle.model.specs.State.{State, Solver, initial}
+use Rattle.model.specs.Run.{step}
+use Rattle.model.specs.Book.{taken-by}
 use Rattle.lawbase.specs.Basics.{_∈_, Every, shrink}
 use Rattle.lawbase.specs.Range.{Ranged}
 use Rattle.lawbase.specs.WellFormed.{WellFormed}
 use Rattle.ends.specs.Bounds.{Limited}
 use Rattle.sound.specs.Sound.{Ready, initial-ready}
-use Rattle.sound.specs.Taking.{add-ready}
-use Rattle.sound.specs.Solve.{solves}
-use Rattle.sound.specs.Run.{Fits}
+use Rattle.sound.specs.Run.{Fits, step-fair}
 use Rattle.script.specs.Accepted.{Accepted, RecordFits, accepted-of}
 
 ranged : (v : ℕ) (r : Record) → RecordFits v r → Ranged v r
@@ -44,34 +42,31 @@ module _ (s : List ℕ) (work activities out : ℕ) (a : Accepted s work activit
   pub all-ranged : Every (Ranged (header s .variables)) (records-of s)
   all-ranged r i = ranged (header s .variables) r (a .records-fit r i)
 
--- the state that records leave
+-- the solver that records leave
 unfoldable pub left-by : Config → List Record → Solver → Solver
 left-by cfg [] x = x
-left-by cfg (clause c ∷ rs) x = left-by cfg rs (with-state x (add-clause cfg (x .state) c .state))
-left-by cfg (solve ps budget ∷ rs) x = left-by cfg rs (Search.solve cfg x ps budget .solver)
+left-by cfg (r ∷ rs) x = left-by cfg rs (step cfg r x .solver)
 
--- the book and the clauses learnt, with the state
+-- the clauses taken and the clauses learnt, with the state
 pub record Between (cfg : Config) (x : Solver) : Type 0 where
-  pub book : List (List ℕ)
+  pub taken : List (List ℕ)
   pub log : List (List ℕ)
-  pub ready : Ready cfg book log (x .state)
+  pub ready : Ready cfg taken log (x .state)
 
-module _ {cfg : Config} (v : 2 * cfg .variables ≤ undef-lit) (small : cfg .max-clauses ≤ no-reason) where
+module _ {cfg : Config} (small : cfg .variables ≤ Limits.max-variables) (few : cfg .max-clauses ≤ Limits.max-clauses) where
   pub left-ready : (rs : List Record) (x : Solver) → Every (Ranged (cfg .variables)) rs → Between cfg x → Between cfg (left-by cfg rs x)
   unfolding left-by
   left-ready [] x f b = b
-  left-ready (clause c ∷ rs) x f b =
-      left-ready rs (with-state x (add-clause cfg (x .state) c .state)) (shrink f)
-      (record { book = _; log = b .log; ready = add-ready (b .ready) v c (f (clause c) (here refl)) })
-  left-ready (solve ps budget ∷ rs) x f b =
-      let k = solves x (b .ready) small ps (f (solve ps budget) (here refl)) budget in
-      left-ready rs (Search.solve cfg x ps budget .solver) (shrink f) (record { book = b .book; log = k .log; ready = k .ready })
+  left-ready (r ∷ rs) x f b =
+      let s = step-fair cfg small few (b .taken) (b .log) r (f r (here refl)) x (b .ready) in
+      left-ready rs (step cfg r x .solver) (shrink f)
+      (record { taken = taken-by (b .taken) r (step cfg r x .answer); log = s .log; ready = s .ready })
 
 -- at each place of an accepted script
 module _ (s : List ℕ) (work activities out : ℕ) (a : Accepted s work activities out) where
   pub between : (before after : List Record) → records-of s ≡ before ++ after → Between (header s) (left-by (header s) before (initial (header s .variables)))
   unfolding initial
   between before after e =
-      left-ready (omega (arith, a .header-fits .variables)) (omega (arith, a .header-fits .clauses)) before (initial (header s .variables))
+      left-ready (a .header-fits .variables) (a .header-fits .clauses) before (initial (header s .variables))
       (λ r i. fits s work activities out a .records r (subst (λ (l : List Record). r ∈ l) (sym e) (in-left after i)))
-      (record { book = []; log = []; ready = initial-ready (header s) })
+      (record { taken = []; log = []; ready = initial-ready (header s) })

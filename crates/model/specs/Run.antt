@@ -6,17 +6,22 @@ use lib.Ieee.{Float}
 use Rattle.model.specs.State.{Solver, f64-zero, initial, with-state}
 use Rattle.model.specs.Intake.{add-clause}
 use Rattle.model.specs.Search as Search
+use Rattle.model.specs.Search.{Solved}
 use Rattle.model.specs.Script.{Config, Record, clause, solve, refused, accepted, read, work-needed}
 
--- the out cells of records, each from the state that the one before it left
+-- a record's cells, and the solver that it leaves
+unfoldable pub step : Config → Record → Solver → Solved
+step cfg (clause c) x =
+    let r = add-clause cfg (x .state) c in
+    record { solver = with-state x (r .state); answer = r .answer ∷ [] }
+step cfg (solve assumptions budget) x = Search.solve cfg x assumptions budget
+
+-- the out cells of records, each from the solver that the one before it left
 unfoldable pub answers : Config → List Record → Solver → List ℕ
 answers cfg [] x = []
-answers cfg (clause c ∷ rs) x =
-    let r = add-clause cfg (x .state) c in
-    r .answer ∷ answers cfg rs (with-state x (r .state))
-answers cfg (solve assumptions budget ∷ rs) x =
-    let r = Search.solve cfg x assumptions budget in
-    r .answer ++ answers cfg rs (r .solver)
+answers cfg (r ∷ rs) x =
+    let done = step cfg r x in
+    done .answer ++ answers cfg rs (done .solver)
 
 unfoldable pub run : Config → List Record → List ℕ
 run cfg rs = answers cfg rs (initial (cfg .variables))

@@ -1,4 +1,4 @@
--- A record's step, and what a loop over the records keeps.
+-- What a record's step leaves in the slices, and what a loop over the records keeps.
 use Prim.Native.Nat.{ℕ, _+_, _*_, _≤_, _<_}
 use native.Mathlib.Omega.{arith}
 use mathlib.Core.Path.{_≡_, refl, sym, ap, _∙_, subst}
@@ -17,7 +17,7 @@ use Rattle.model.specs.State.{State, Activity, Solver, initial, initial-state, 
 use Rattle.model.specs.Intake.{add-clause}
 use Rattle.model.specs.Search as Search
 use Rattle.model.specs.Search.{Solved}
-use Rattle.model.specs.Run.{answers, run}
+use Rattle.model.specs.Run.{step, answers, run}
 use Rattle.lawbase.specs.WellFormed.{WellFormed}
 use Rattle.assign.specs.Initial.{initial-formed}
 use Rattle.script.specs.Walk.{kind-at, count-at, literals-at, budget-at, record-at, records-from, records-step, next-at, RecordAt}
@@ -41,18 +41,11 @@ use Rattle.search.specs.declared.Solver as search
 use Rattle.answer.specs.declared.Next.{Next}
 use Rattle.answer.specs.Answered.{Between, Answered}
 
--- the answer to a record, and the state after it
-unfoldable pub step : Script.Config → Record → Solver → Solved
-step cfg (clause c) x =
-    record { solver = with-state x (add-clause cfg (x .state) c .state); answer = add-clause cfg (x .state) c .answer ∷ [] }
-step cfg (solve assumptions budget) x = Search.solve cfg x assumptions budget
-
 -- the run is its steps
 pub answers-step : (cfg : Script.Config) (r : Record) (rs : List Record) (x : Solver)
     → answers cfg (r ∷ rs) x ≡ step cfg r x .answer ++ answers cfg rs (step cfg r x .solver)
-unfolding answers step
-answers-step cfg (clause c) rs x = refl
-answers-step cfg (solve assumptions budget) rs x = refl
+unfolding answers
+answers-step cfg r rs x = refl
 
 -- ---- one record
 

@@ -1,4 +1,4 @@
--- What the answers say, from what the state says of the book: the model, the final clause, no model at all.
+-- What the answers say, from what the state says of the clauses taken: the model, the final clause, no model at all.
 use mathlib.Core.Path.{_≡_, subst}
 use mathlib.Core.Logic.{_≢_}
 use mathlib.Core.Bool.{true, false}
@@ -26,7 +26,7 @@ use Rattle.book.specs.Demand.{row-common}
 use Rattle.watching.specs.Watching.{Settled, satisfied, open-two}
 use Rattle.sound.specs.Sound.{Agrees, Sound, Ready}
 use Rattle.sound.specs.Taking.{add-ready, add-refuted}
-use Rattle.sound.specs.Rows.{row-of, small-row, row-small, sat-holds, models-model, rup-book, rup-none, rup-no-model}
+use Rattle.sound.specs.Rows.{row-of, small-row, row-small, sat-holds, models-model, rup-taken, rup-none, rup-no-model}
 
 -- ---- TRUE
 
@@ -68,36 +68,37 @@ module _ {cfg : Config} {s : State} (w : WellFormed cfg s) where
           }
 
       -- the values are a common model
-      pub true-common : {book log : List (List ℕ)} → Sound (cfg .variables) book log s → s .ok ≡ true → (assumptions : List ℕ)
-          → Every (λ p. p ∈ (s .vars .trail)) assumptions → T (is-common (cfg .variables) book assumptions (s .vars .values))
-      true-common {book} k e ps h =
+      pub true-common : {taken log : List (List ℕ)} → Sound (cfg .variables) taken log s → s .ok ≡ true → (assumptions : List ℕ)
+          → Every (λ p. p ∈ (s .vars .trail)) assumptions → T (is-common (cfg .variables) taken assumptions (s .vars .values))
+      true-common {taken} k e ps h =
           let r = small-row (cfg .variables) (s .vars .values) (w .vars .values) all-set in
-          row-common (cfg .variables) book ps (s .vars .values) r
-          (models-model (cfg .variables) (s .vars .values) book (w .vars .values) (k .range)
+          row-common (cfg .variables) taken ps (s .vars .values) r
+          (models-model (cfg .variables) (s .vars .values) taken (w .vars .values) (k .range)
           (k .covers e (row-of (s .vars .values)) (row-small (cfg .variables) (s .vars .values) r) agrees))
           (every-all (holds (s .vars .values)) ps (λ p i. trail-holds p (h p i)))
 
 -- ---- FALSE
 
 -- a stored clause false at level 0
-pub level-zero-rup : {cfg : Config} {book log : List (List ℕ)} {s : State} → WellFormed cfg s → Sound (cfg .variables) book log s
+pub level-zero-rup : {cfg : Config} {taken log : List (List ℕ)} {s : State} → WellFormed cfg s → Sound (cfg .variables) taken log s
     → decision-level (s .vars) ≡ 0 → (c : ℕ) → c < length (s .store .clauses) → Every (λ q. neg q ∈ (s .vars .trail)) (clause-at (s .store) c)
-    → Rup (log ++ book) []
+    → Rup (log ++ taken) []
 level-zero-rup {s = s} w k z c h f S d _ =
     let x = k .known S d in
     x .stored (clause-at (s .store) c) (getD-in (s .store .clauses) c [] h) .clash
     (λ q i. x .fixed (neg q) (f q i) (omega (arith, trail-level (w .vars) (neg q) (f q i))))
 
 -- there is no model without assumptions either
-pub bad-follows : {n : ℕ} {book log : List (List ℕ)} {s : State} → Sound n book log s → s .ok ≡ false → Follows n book []
-bad-follows {n} {book} {log} k e = rup-none n book log (k .logged) (k .bad e)
+pub bad-follows : {n : ℕ} {taken log : List (List ℕ)} {s : State} → Sound n taken log s → s .ok ≡ false → Follows n taken []
+bad-follows {n} {taken} {log} k e = rup-none n taken log (k .logged) (k .bad e)
 
-pub bad-no-model : {n : ℕ} {book log : List (List ℕ)} {s : State} → Sound n book log s → s .ok ≡ false → No-model n book
-bad-no-model {n} {book} {log} k e = rup-no-model n book log (k .logged) (k .bad e)
+pub bad-no-model : {n : ℕ} {taken log : List (List ℕ)} {s : State} → Sound n taken log s → s .ok ≡ false → No-model n taken
+bad-no-model {n} {taken} {log} k e = rup-no-model n taken log (k .logged) (k .bad e)
 
 -- the final clause of a false assumption
-pub record Finals (n : ℕ) (book : List (List ℕ)) (assumptions final : List ℕ) : Type 0 where
-  pub follows : Follows n book final
+pub record Finals (n : ℕ) (taken log : List (List ℕ)) (assumptions final : List ℕ) : Type 0 where
+  pub rup : Rup (log ++ taken) final
+  pub follows : Follows n taken final
   pub negated : T (all (λ l. has assumptions (neg l)) final)
   pub some : 0 < length final
 
@@ -126,19 +127,20 @@ module _ {cfg : Config} {ps : List ℕ} {s s′ : State} {final : List ℕ} (f :
       (every-cons (λ l. l < 2 * cfg .variables) (trail-range (f .searching .formed .vars) p (f .false-on))
       (λ l i. rw neg-neg at (neg-range (neg l) (cfg .variables) (trail-range (f .searching .formed .vars) (neg l) (clause .decisions l i .falsified)))))
 
-  pub failed-finals : {book log : List (List ℕ)} → Sound (cfg .variables) book log s′ → Finals (cfg .variables) book ps final
-  failed-finals {book} {log} k =
+  pub failed-finals : {taken log : List (List ℕ)} → Sound (cfg .variables) taken log s′ → Finals (cfg .variables) taken log ps final
+  failed-finals {taken} {log} k =
+      let u = final-rup (log ++ taken) (cfg .variables) (s′ .store) vs p final (k .known) clause in
       record {
-        follows = rup-book (cfg .variables) book log (k .logged) final
-            (final-rup (log ++ book) (cfg .variables) (s′ .store) vs p final (k .known) clause) in-range;
+        rup = u;
+        follows = rup-taken (cfg .variables) taken log (k .logged) final u in-range;
         negated = every-all (λ l. has ps (neg l)) final (λ l i. in-has ps (neg l) (negated-in l i));
         some = rw (clause .is) (omega arith);
       }
 
 -- ---- a clause answered 0
 
-pub add-no-model : {cfg : Config} {book log : List (List ℕ)} {s : State} → Ready cfg book log s → 2 * cfg .variables ≤ undef-lit → (c : List ℕ)
-    → Every (λ l. l < 2 * cfg .variables) c → add-clause cfg s c .answer ≡ 0 → No-model (cfg .variables) (book ++ (c ∷ []))
+pub add-no-model : {cfg : Config} {taken log : List (List ℕ)} {s : State} → Ready cfg taken log s → 2 * cfg .variables ≤ undef-lit → (c : List ℕ)
+    → Every (λ l. l < 2 * cfg .variables) c → add-clause cfg s c .answer ≡ 0 → No-model (cfg .variables) (taken ++ (c ∷ []))
 unfolding fed
-add-no-model {cfg} {book} {log} k small c r e =
-    rup-no-model (cfg .variables) (book ++ (c ∷ [])) log (rw e at (add-ready k small c r .sound .logged)) (add-refuted k small c r e)
+add-no-model {cfg} {taken} {log} k small c r e =
+    rup-no-model (cfg .variables) (taken ++ (c ∷ [])) log (rw e at (add-ready k small c r .sound .logged)) (add-refuted k small c r e)

@@ -74,18 +74,18 @@ module _ (cfg : Config) (s : State) (st : Stored cfg (s .store)) where
       subst (λ c. (add-learnt-and-backtrack cfg s c level ≡ none) ↔ ((2 ≤ length c) × Full cfg (s .store) c)) (sym (a .is))
       (full-rest (neg (a .uip)) (a .rest) level)
 
-module _ {cfg : Config} {ps : List ℕ} {book log : List (List ℕ)} (small : cfg .max-clauses ≤ no-reason) {s : State}
-    (t : Returning cfg s) (r : Searching cfg ps s) (k : Sound (cfg .variables) book log s) (o : s .ok ≡ true)
+module _ {cfg : Config} {ps : List ℕ} {taken log : List (List ℕ)} (small : cfg .max-clauses ≤ no-reason) {s : State}
+    (t : Returning cfg s) (r : Searching cfg ps s) (k : Sound (cfg .variables) taken log s) (o : s .ok ≡ true)
     (deep : 0 < decision-level (s .vars)) where
   -- the clause learnt finds its place, or no room
   Added : Option State → Type 0
-  Added none = Stopped cfg book log s
-  Added (some s′) = (l : List (List ℕ)) × Solving cfg ps book l s′
+  Added none = Stopped cfg taken log s
+  Added (some s′) = (l : List (List ℕ)) × Solving cfg ps taken l s′
 
-  stopped : Stopped cfg book log s
+  stopped : Stopped cfg taken log s
   stopped = record { returning = t; deep = deep; sound = k; ok = o }
 
-  added-unit : (uip : ℕ) → Asserting (s .vars) 0 uip [] → Rup (log ++ book) (uip ∷ []) → (level : ℕ)
+  added-unit : (uip : ℕ) → Asserting (s .vars) 0 uip [] → Rup (log ++ taken) (uip ∷ []) → (level : ℕ)
       → Added (add-learnt-and-backtrack cfg s (uip ∷ []) level)
   unfolding Added
   added-unit uip a u level =
@@ -99,7 +99,7 @@ module _ {cfg : Config} {ps : List ℕ} {book log : List (List ℕ)} (small : cf
         },
       )
 
-  added-stored : (uip level second : ℕ) (more : List ℕ) → Asserting (s .vars) level uip (second ∷ more) → Rup (log ++ book) (uip ∷ second ∷ more)
+  added-stored : (uip level second : ℕ) (more : List ℕ) → Asserting (s .vars) level uip (second ∷ more) → Rup (log ++ taken) (uip ∷ second ∷ more)
       → level-lit (s .vars) second ≡ level → Proper (cfg .variables) (uip ∷ second ∷ more)
       → Added (add-learnt-and-backtrack cfg s (uip ∷ second ∷ more) level)
   unfolding Added
@@ -116,7 +116,7 @@ module _ {cfg : Config} {ps : List ℕ} {book log : List (List ℕ)} (small : cf
         },
       ))
 
-  added-rest : (uip : ℕ) (rest : List ℕ) (level : ℕ) → Asserting (s .vars) level uip rest → Rup (log ++ book) (uip ∷ rest)
+  added-rest : (uip : ℕ) (rest : List ℕ) (level : ℕ) → Asserting (s .vars) level uip rest → Rup (log ++ taken) (uip ∷ rest)
       → level ≡ backtrack-level (s .vars) rest → Every (λ q. q < 2 * cfg .variables) (uip ∷ rest) → Distinct (uip ∷ rest)
       → Added (add-learnt-and-backtrack cfg s (uip ∷ rest) level)
   unfolding backtrack-level
@@ -129,13 +129,13 @@ module _ {cfg : Config} {ps : List ℕ} {book log : List (List ℕ)} (small : cf
   added clause level a =
       subst (λ c. Added (add-learnt-and-backtrack cfg s c level)) (sym (a .is))
       (added-rest (neg (a .uip)) (a .rest) level (analyzed-asserting a)
-      (subst (Rup (log ++ book)) (a .is) (analyze-rup (log ++ book) (cfg .variables) (s .store) (s .vars) clause level (k .known) a))
+      (subst (Rup (log ++ taken)) (a .is) (analyze-rup (log ++ taken) (cfg .variables) (s .store) (s .vars) clause level (k .known) a))
       (a .second)
       (subst (Every (λ q. q < 2 * cfg .variables)) (a .is) (a .range))
       (subst Distinct (a .is) (a .distinct)))
 
-module _ {cfg : Config} {ps : List ℕ} {book log : List (List ℕ)} (small : cfg .max-clauses ≤ no-reason) (x : Solver) (confl : ℕ)
-    (f : Conflict cfg confl (x .state)) (r : Searching cfg ps (x .state)) (k : Sound (cfg .variables) book log (x .state))
+module _ {cfg : Config} {ps : List ℕ} {taken log : List (List ℕ)} (small : cfg .max-clauses ≤ no-reason) (x : Solver) (confl : ℕ)
+    (f : Conflict cfg confl (x .state)) (r : Searching cfg ps (x .state)) (k : Sound (cfg .variables) taken log (x .state))
     (o : x .state .ok ≡ true) where
   clause-two : 2 ≤ length (clause-at (x .state .store) confl)
   clause-two =
@@ -156,10 +156,10 @@ module _ {cfg : Config} {ps : List ℕ} {book log : List (List ℕ)} (small : cf
   added-now deep =
       added small (conflict-returning f) r k o deep (analyze cfg x confl .clause) (analyze cfg x confl .level) (analyze-law cfg x confl (conflict-of deep))
 
-  pub conflict-turned : (conflicts conflict-c : ℕ) → Turned cfg ps book (on-conflict cfg conflicts conflict-c x confl)
+  pub conflict-turned : (conflicts conflict-c : ℕ) → Turned cfg ps taken (on-conflict cfg conflicts conflict-c x confl)
   unfolding Added
   conflict-turned conflicts conflict-c =
-      conflict-cases (Turned cfg ps book) cfg conflicts conflict-c x confl
+      conflict-cases (Turned cfg ps taken) cfg conflicts conflict-c x confl
       (λ z.
       over (record { solver = x; conflicts = suc conflicts; status = FALSE [] })
       (refutes (x .state) log

@@ -1,4 +1,4 @@
--- A learnt clause joins the log: the way back, and the clause's first literal set, keep what the state says of the book.
+-- A learnt clause joins the log: the way back, and the clause's first literal set, keep what the state says of the clauses taken.
 use mathlib.Core.Path.{_≡_, refl, sym, _∙_}
 use mathlib.Core.Bool.{Bool, true}
 use mathlib.Core.List.{List, [], _∷_, _++_, List·Memᴰ·head as here, List·Memᴰ·tail as there, Memᴰ·append-left as in-left}
@@ -42,15 +42,15 @@ record Learns (C : List ℕ) (s s′ : State) : Type 0 where
   ok : s′ .ok ≡ s .ok
   before : (ρ : ℕ → ℕ) → Agrees ρ (s′ .store) (s′ .vars) → Agrees ρ (s .store) (s .vars)
 
-sound-learns : {n : ℕ} {book log : List (List ℕ)} {s s′ : State} {C : List ℕ} → Sound n book log s → Rup (log ++ book) C → Learns C s s′
-    → Sound n book (C ∷ log) s′
-sound-learns {book = book} {log = log} {C = C} k u g =
+sound-learns : {n : ℕ} {taken log : List (List ℕ)} {s s′ : State} {C : List ℕ} → Sound n taken log s → Rup (log ++ taken) C → Learns C s s′
+    → Sound n taken (C ∷ log) s′
+sound-learns {taken = taken} {log = log} {C = C} k u g =
     record {
-      known = λ S h. g .known S (k .known S (closed-mono S (log ++ book) (C ∷ (log ++ book)) (λ D i. there i) h)) (h .respects C (here refl));
+      known = λ S h. g .known S (k .known S (closed-mono S (log ++ taken) (C ∷ (log ++ taken)) (λ D i. there i) h)) (h .respects C (here refl));
       logged = (u, k .logged);
       covers = λ e ρ r a. k .covers (sym (g .ok) ∙ e) ρ r (g .before ρ a);
       range = k .range;
-      bad = λ e. rup-mono (log ++ book) (C ∷ (log ++ book)) [] (λ D i. there i) (k .bad (sym (g .ok) ∙ e));
+      bad = λ e. rup-mono (log ++ taken) (C ∷ (log ++ taken)) [] (λ D i. there i) (k .bad (sym (g .ok) ∙ e));
     }
 
 -- after the way back: the first literal is unset, the others are false
@@ -98,16 +98,16 @@ module _ {n : ℕ} {cs : List (List ℕ)} (s : State) (w : Assignment n cs (s .v
 
 -- ---- the step as `search` does it
 
-module _ {n : ℕ} {cs : List (List ℕ)} {book log : List (List ℕ)} {s : State} (k : Sound n book log s) (w : Assignment n cs (s .vars))
+module _ {n : ℕ} {cs : List (List ℕ)} {taken log : List (List ℕ)} {s : State} (k : Sound n taken log s) (w : Assignment n cs (s .vars))
     (phase uip : ℕ) where
-  pub unit-sound : Asserting (s .vars) 0 uip [] → Rup (log ++ book) (uip ∷ []) → Sound n book ((uip ∷ []) ∷ log) (with-unit phase s uip)
+  pub unit-sound : Asserting (s .vars) 0 uip [] → Rup (log ++ taken) (uip ∷ []) → Sound n taken ((uip ∷ []) ∷ log) (with-unit phase s uip)
   unit-sound a u =
       sound-learns (cancel-sound k phase 0 w) u
       (unit-learns (cancel-until phase s 0) (cancel-assignment phase s 0 w) uip [] no-reason (uip-range w a) (uip-unset phase s 0 w uip a)
       (rest-false phase s 0 w uip a))
 
-  pub learnt-sound : (level : ℕ) (rest : List ℕ) → Asserting (s .vars) level uip rest → Rup (log ++ book) (uip ∷ rest)
-      → Sound n book ((uip ∷ rest) ∷ log) (with-learnt phase s level uip rest)
+  pub learnt-sound : (level : ℕ) (rest : List ℕ) → Asserting (s .vars) level uip rest → Rup (log ++ taken) (uip ∷ rest)
+      → Sound n taken ((uip ∷ rest) ∷ log) (with-learnt phase s level uip rest)
   learnt-sound level rest a u =
       sound-learns (cancel-sound k phase level w) u
       (stored-learns (cancel-until phase s level) (cancel-assignment phase s level w) uip rest (length (s .store .clauses)) (uip-range w a)

@@ -1,4 +1,4 @@
--- What the answers of a run say is so: taking a clause, what the state says of the book, the steps that keep it, a solve, and the run.
+-- What the answers of a run say is so: taking a clause, what the state says of the clauses taken, the steps that keep it, a solve, and the run.
 pub mod Intake
 pub mod Mono
 pub mod Sound

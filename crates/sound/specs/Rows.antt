@@ -80,18 +80,18 @@ pub models-model : (n : ℕ) (row : List ℕ) (F : List (List ℕ)) → length r
 unfolding is-model
 models-model n row F e r m = every-all (any (holds row)) F (λ C i. sat-any n row C e (r C i) (m C i))
 
--- ---- what the log and the book refute follows from the book
+-- ---- what the clauses learnt and taken refute follows from those taken
 
-module _ (n : ℕ) (book log : List (List ℕ)) (g : Log book log) where
-  pub rup-book : (C : List ℕ) → Rup (log ++ book) C → Every (λ l. l < 2 * n) C → Follows n book C
-  rup-book C u r row x m =
+module _ (n : ℕ) (taken log : List (List ℕ)) (g : Log taken log) where
+  pub rup-taken : (C : List ℕ) → Rup (log ++ taken) C → Every (λ l. l < 2 * n) C → Follows n taken C
+  rup-taken C u r row x m =
       sat-any n row C (row-length n row x) r
-      (rup-follows (log ++ book) C u (row-of row) (row-small n row x)
-      (log-models book log g (row-of row) (row-small n row x) (model-models row book m)))
+      (rup-follows (log ++ taken) C u (row-of row) (row-small n row x)
+      (log-models taken log g (row-of row) (row-small n row x) (model-models row taken m)))
 
-  pub rup-none : Rup (log ++ book) [] → Follows n book []
-  rup-none u = rup-book [] u (λ l i. absurd (not-nil i))
+  pub rup-none : Rup (log ++ taken) [] → Follows n taken []
+  rup-none u = rup-taken [] u (λ l i. absurd (not-nil i))
 
-  pub rup-no-model : Rup (log ++ book) [] → No-model n book
+  pub rup-no-model : Rup (log ++ taken) [] → No-model n taken
   unfolding any
   rup-no-model u row x m = rup-none u row x m

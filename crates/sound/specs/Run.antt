@@ -1,25 +1,20 @@
 -- The whole run: the book's demand holds of the answers that the definition gives.
-use mathlib.Core.Path.{_≡_, refl, sym, _∙_, subst}
-use mathlib.Core.Logic.{_⊎_}
-use mathlib.Core.Bool.{_&&_}
+use mathlib.Core.Path.{_≡_, refl, sym, ap, _∙_, subst}
 use mathlib.Core.List.{List, [], _∷_, _++_, List·Memᴰ·head as here}
 use Prim.Native.Nat.{ℕ, _+_, _*_, _≤_, _<_}
 use native.Mathlib.Omega.{arith}
 use lib.ListN.{length, drop, length-append}
-use lib.Seq.{take-at, drop-at}
-use lib.Dec.{T, lt→ltb}
-use Rattle.model.specs.Lit.{neg}
+use lib.Seq.{take-at, drop-at, take-length}
 use Rattle.model.specs.Limits as Limits
 use Rattle.model.specs.Script.{Config, Record, clause, solve, header, records-of}
-use Rattle.model.specs.State.{Solver, initial, with-state}
+use Rattle.model.specs.State.{Solver, initial}
 use Rattle.model.specs.Intake.{add-clause}
-use Rattle.model.specs.Search as Search
-use Rattle.model.specs.Run.{answers, run}
-use Rattle.model.specs.Book.{all, has, in-range-of, is-common, Follows, No-model, Entry, at-clause, at-solve, fed, entries, cells-of, history, Demand-3}
+use Rattle.model.specs.Search.{Solved}
+use Rattle.model.specs.Run.{step, answers, run}
+use Rattle.model.specs.Book.{Entry, fed, book-of, entry, answer-cells, taken-by, entries, cells-of, history, Demand-3}
 use Rattle.lawbase.specs.Basics.{Every, every-nil, every-cons, shrink}
 use Rattle.lawbase.specs.Range.{Ranged}
-use Rattle.book.specs.Booleans.{and, every-all}
-use Rattle.book.specs.Demand.{Honest, demand}
+use Rattle.book.specs.Demand.{FairClause, FairSolve, Fair, Honest, demand, book-taken}
 use Rattle.sound.specs.Sound.{Ready, initial-ready}
 use Rattle.sound.specs.Taking.{add-ready, add-answer}
 use Rattle.sound.specs.Answers.{add-no-model}
@@ -33,117 +28,99 @@ pub record Fits (cfg : Config) (rs : List Record) : Type 0 where
   pub clauses : cfg .max-clauses ≤ Limits.max-clauses
   pub records : Every (Ranged (cfg .variables)) rs
 
--- ---- what is shown of each record
-
--- a solve, the book before it, and its answer
-pub record FairSolve (n : ℕ) (book : List (List ℕ)) (assumptions : List ℕ) (answer : ℕ) (body : List ℕ) : Type 0 where
-  pub range : T (all (all (in-range-of n)) book && all (in-range-of n) assumptions)
-  pub verdict : answer ≤ 2
-  pub true-shows : answer ≡ 0 → T (is-common n book assumptions body)
-  pub final-negated : answer ≡ 1 → T (all (λ l. has assumptions (neg l)) body)
-  pub final-follows : answer ≡ 1 → Follows n book body
-  pub stopped-cause : answer ≡ 2 → (body ≡ 1 ∷ []) ⊎ (body ≡ 2 ∷ [])
-
-abbrev pub Fair : ℕ → Entry → Type 0
-Fair n (at-clause book c answer) = (answer ≤ 2) × (answer ≡ 0 → No-model n (book ++ (c ∷ [])))
-Fair n (at-solve book assumptions answer body) = FairSolve n book assumptions answer body
-
--- the answers to records: fair each, and all the cells there are
-record FairAll (n : ℕ) (book : List (List ℕ)) (rs : List Record) (out : List ℕ) : Type 0 where
-  each : Every (Fair n) (entries book rs out)
-  whole : cells-of rs out ≡ length out
-
-literals-in : (n : ℕ) (ls : List ℕ) → Every (λ l. l < 2 * n) ls → T (all (in-range-of n) ls)
-unfolding in-range-of
-literals-in n ls h = every-all (in-range-of n) ls (λ l i. lt→ltb l (2 * n) (h l i))
-
-clauses-in : (n : ℕ) (book : List (List ℕ)) → Every (λ c. Every (λ l. l < 2 * n) c) book → T (all (all (in-range-of n)) book)
-clauses-in n book h = every-all (all (in-range-of n)) book (λ c i. literals-in n c (h c i))
-
 -- ---- one record
 
-fair-clause : (n : ℕ) (book : List (List ℕ)) (c : List ℕ) (rs : List Record) (answer : ℕ) (out : List ℕ) → Fair n (at-clause book c answer)
-    → FairAll n (fed book c answer) rs out → FairAll n book (clause c ∷ rs) (answer ∷ out)
-unfolding entries cells-of
-fair-clause n book c rs answer out f h =
-    record { each = every-cons (Fair n) f (h .each); whole = omega (arith, h .whole) }
+-- Its answer is read as such, whatever stands behind it in out.
+pub record Reads (taken : List (List ℕ)) (r : Record) (answer : List ℕ) : Type 0 where
+  pub cells : (out : List ℕ) → answer-cells r (answer ++ out) ≡ length answer
+  pub entry-is : (out : List ℕ) → entry taken r (answer ++ out) ≡ entry taken r answer
+  pub taken-is : (out : List ℕ) → taken-by taken r (answer ++ out) ≡ taken-by taken r answer
 
-module _ (book : List (List ℕ)) (assumptions : List ℕ) (budget : ℕ) (rs : List Record) (answer conflicts : ℕ) (body out : List ℕ) where
+-- what a record's step comes to, after the clauses taken
+pub record Stepped (cfg : Config) (taken : List (List ℕ)) (r : Record) (q : Solved) : Type 0 where
+  pub reads : Reads taken r (q .answer)
+  pub fair : Fair (cfg .variables) (entry taken r (q .answer))
+  pub log : List (List ℕ)
+  pub ready : Ready cfg (taken-by taken r (q .answer)) log (q .solver .state)
+
+clause-reads : (taken : List (List ℕ)) (c : List ℕ) (answer : ℕ) → Reads taken (clause c) (answer ∷ [])
+unfolding entry answer-cells taken-by
+clause-reads taken c answer = record { cells = λ out. refl; entry-is = λ out. refl; taken-is = λ out. refl }
+
+module _ (taken : List (List ℕ)) (assumptions : List ℕ) (budget answer conflicts : ℕ) (body : List ℕ) where
   abbrev cells : List ℕ
   cells = answer ∷ conflicts ∷ length body ∷ body
 
-  behind : drop (3 + length body) (cells ++ out) ≡ out
-  behind = drop-at cells out (3 + length body) (omega arith)
+  solve-reads : Reads taken (solve assumptions budget) cells
+  unfolding entry answer-cells taken-by
+  solve-reads =
+      record {
+        cells = λ out. omega arith;
+        entry-is = λ out. rw (take-at body out (length body) refl, take-length body);
+        taken-is = λ out. refl;
+      }
 
-  solve-entries : entries book (solve assumptions budget ∷ rs) (cells ++ out) ≡ at-solve book assumptions answer body ∷ entries book rs out
-  unfolding entries
-  solve-entries = rw (behind, take-at body out (length body) refl)
+  solve-fair : (n : ℕ) → FairSolve n taken assumptions answer body → Fair n (entry taken (solve assumptions budget) cells)
+  unfolding entry
+  solve-fair n f = rw (take-length body, book-taken taken) f
 
-  solve-cells : cells-of (solve assumptions budget ∷ rs) (cells ++ out) ≡ 3 + length body + cells-of rs out
-  unfolding cells-of
-  solve-cells = rw behind
-
-fair-solve : (n : ℕ) (book : List (List ℕ)) (assumptions : List ℕ) (budget : ℕ) (rs : List Record) (answer out : List ℕ)
-    → Every (λ c. Every (λ l. l < 2 * n) c) book → Every (λ l. l < 2 * n) assumptions → Told n book assumptions answer
-    → FairAll n book rs out → FairAll n book (solve assumptions budget ∷ rs) (answer ++ out)
-fair-solve n book ps budget rs answer out rb ra t h =
-    subst (λ a. FairAll n book (solve ps budget ∷ rs) (a ++ out)) (sym (t .is))
-    (record {
-      each = rw (solve-entries book ps budget rs (t .answer) (t .conflicts) (t .body) out)
-          (every-cons (Fair n)
-          (record {
-            range = and (all (all (in-range-of n)) book) (all (in-range-of n) ps) (clauses-in n book rb) (literals-in n ps ra);
-            verdict = t .verdict;
-            true-shows = t .true-shows;
-            final-negated = t .final-negated;
-            final-follows = t .final-follows;
-            stopped-cause = t .stopped-cause;
-          })
-          (h .each));
-      whole = solve-cells book ps budget rs (t .answer) (t .conflicts) (t .body) out ∙ omega (arith, h .whole, length-append (t .body) out);
-    })
+module _ (cfg : Config) (small : cfg .variables ≤ Limits.max-variables) (few : cfg .max-clauses ≤ Limits.max-clauses) (taken log : List (List ℕ)) where
+  pub step-fair : (r : Record) → Ranged (cfg .variables) r → (x : Solver) → Ready cfg taken log (x .state) → Stepped cfg taken r (step cfg r x)
+  unfolding step taken-by entry
+  step-fair (clause c) g x k =
+      record {
+        reads = clause-reads taken c (add-clause cfg (x .state) c .answer);
+        fair = rw (book-taken taken) (record { known = add-answer k (omega arith) c g; no-model = add-no-model k (omega arith) c g });
+        log = log;
+        ready = add-ready k (omega arith) c g;
+      }
+  step-fair (solve ps budget) g x k =
+      let z = solves x k (omega arith) ps g budget in
+      let t = z .told in
+      record {
+        reads = rw (t .is) (solve-reads taken ps budget (t .answer) (t .conflicts) (t .body));
+        fair = rw (t .is) (solve-fair taken ps budget (t .answer) (t .conflicts) (t .body) (cfg .variables) (t .fair));
+        log = z .log;
+        ready = z .ready;
+      }
 
 -- ---- all of them
 
+-- the answers to records: fair each, and all the cells there are
+record FairAll (n : ℕ) (taken : List (List ℕ)) (rs : List Record) (out : List ℕ) : Type 0 where
+  each : Every (Fair n) (entries taken rs out)
+  whole : cells-of rs out ≡ length out
+
+-- a record more
+fair-more : (n : ℕ) (taken : List (List ℕ)) (r : Record) (rs : List Record) (answer out : List ℕ) → Reads taken r answer → Fair n (entry taken r answer)
+    → FairAll n (taken-by taken r answer) rs out → FairAll n taken (r ∷ rs) (answer ++ out)
+unfolding entries cells-of
+fair-more n taken r rs answer out c f h =
+    let rest : drop (answer-cells r (answer ++ out)) (answer ++ out) ≡ out = drop-at answer out (answer-cells r (answer ++ out)) (sym (c .cells out)) in
+    record {
+      each = rw (rest, c .entry-is out, c .taken-is out) (every-cons (Fair n) f (h .each));
+      whole = omega (arith, c .cells out, ap (cells-of rs) rest, h .whole, length-append answer out);
+    }
+
 module _ (cfg : Config) (small : cfg .variables ≤ Limits.max-variables) (few : cfg .max-clauses ≤ Limits.max-clauses) where
-  answers-fair : (rs : List Record) → Every (Ranged (cfg .variables)) rs → (x : Solver) (book log : List (List ℕ)) → Ready cfg book log (x .state)
-      → FairAll (cfg .variables) book rs (answers cfg rs x)
+  answers-fair : (rs : List Record) → Every (Ranged (cfg .variables)) rs → (x : Solver) (taken log : List (List ℕ)) → Ready cfg taken log (x .state)
+      → FairAll (cfg .variables) taken rs (answers cfg rs x)
   unfolding answers entries cells-of
-  answers-fair [] r x book log k = record { each = every-nil (Fair (cfg .variables)); whole = refl }
-  answers-fair (clause c ∷ rs) r x book log k =
-      fair-clause (cfg .variables) book c rs (add-clause cfg (x .state) c .answer) (answers cfg rs (with-state x (add-clause cfg (x .state) c .state)))
-      (add-answer k (omega arith) c (r (clause c) (here refl)), add-no-model k (omega arith) c (r (clause c) (here refl)))
-      (answers-fair rs (shrink r) (with-state x (add-clause cfg (x .state) c .state)) (fed book c (add-clause cfg (x .state) c .answer)) log
-      (add-ready k (omega arith) c (r (clause c) (here refl))))
-  answers-fair (solve ps budget ∷ rs) r x book log k =
-      let z = solves x k (omega arith) ps (r (solve ps budget) (here refl)) budget in
-      fair-solve (cfg .variables) book ps budget rs (Search.solve cfg x ps budget .answer) (answers cfg rs (Search.solve cfg x ps budget .solver))
-      (k .sound .range) (r (solve ps budget) (here refl)) (z .told)
-      (answers-fair rs (shrink r) (Search.solve cfg x ps budget .solver) book (z .log) (z .ready))
+  answers-fair [] g x taken log k = record { each = every-nil (Fair (cfg .variables)); whole = refl }
+  answers-fair (r ∷ rs) g x taken log k =
+      let s = step-fair cfg small few taken log r (g r (here refl)) x k in
+      fair-more (cfg .variables) taken r rs (step cfg r x .answer) (answers cfg rs (step cfg r x .solver)) (s .reads) (s .fair)
+      (answers-fair rs (shrink g) (step cfg r x .solver) (taken-by taken r (step cfg r x .answer)) (s .log) (s .ready))
 
   run-fair : (rs : List Record) → Every (Ranged (cfg .variables)) rs → FairAll (cfg .variables) [] rs (run cfg rs)
   unfolding run initial
-  run-fair rs r = answers-fair rs r (initial (cfg .variables)) [] [] (initial-ready cfg)
+  run-fair rs g = answers-fair rs g (initial (cfg .variables)) [] [] (initial-ready cfg)
 
 -- ---- demand 3
 
-honest-of : (script out : List ℕ) → FairAll (header script .variables) [] (records-of script) out → Honest script out
-unfolding history
-honest-of script out h =
-    record {
-      whole = h .whole;
-      in-range = λ book ps answer body i. h .each (at-solve book ps answer body) i .range;
-      clause-answer = λ book c answer i. h .each (at-clause book c answer) i .0;
-      clause-no-model = λ book c i. h .each (at-clause book c 0) i .1 refl;
-      solve-answer = λ book ps answer body i. h .each (at-solve book ps answer body) i .verdict;
-      true-shows = λ book ps body i. h .each (at-solve book ps 0 body) i .true-shows refl;
-      final-negated = λ book ps body i. h .each (at-solve book ps 1 body) i .final-negated refl;
-      final-follows = λ book ps body i. h .each (at-solve book ps 1 body) i .final-follows refl;
-      stopped-cause = λ book ps body i. h .each (at-solve book ps 2 body) i .stopped-cause refl;
-    }
-
 -- demand 3, of every script that fits
 pub run-demand : (script : List ℕ) → Fits (header script) (records-of script) → Demand-3 script (run (header script) (records-of script))
+unfolding history
 run-demand script f =
-    demand script (run (header script) (records-of script))
-    (honest-of script (run (header script) (records-of script)) (run-fair (header script) (f .variables) (f .clauses) (records-of script) (f .records)))
+    let h = run-fair (header script) (f .variables) (f .clauses) (records-of script) (f .records) in
+    demand script (run (header script) (records-of script)) (record { whole = h .whole; each = h .each })

@@ -1,4 +1,4 @@
--- What the state of a run knows of the book, the clauses taken so far, and of the log, the clauses learnt, newest first.
+-- What the state of a run knows of the clauses taken so far, and of the log, the clauses learnt, newest first.
 use mathlib.Core.Path.{_≡_, refl, sym, _∙_}
 use mathlib.Core.Bool.{Bool, true, false, true≢false}
 use mathlib.Core.List.{List, [], _++_, List·Memᴰ·not-nil as not-nil}
@@ -17,25 +17,25 @@ pub record Agrees (ρ : ℕ → ℕ) (st : Store) (vs : VarState) : Type 0 where
   pub stored : Every (Sat ρ) (st .clauses)
   pub fixed : Every (λ p. level-lit vs p ≡ 0 → sat ρ p ≡ true) (vs .trail)
 
--- such a row is a model of the book: what intake dropped or left out is so at level 0
+-- such a row is a model of the clauses taken: what intake dropped or left out is so at level 0
 abbrev pub Covers : List (List ℕ) → Store → VarState → Type 0
-Covers book st vs = (ρ : ℕ → ℕ) → Row ρ → Agrees ρ st vs → Models ρ book
+Covers taken st vs = (ρ : ℕ → ℕ) → Row ρ → Agrees ρ st vs → Models ρ taken
 
--- n variables. What the state says of the book.
-pub record Sound (n : ℕ) (book log : List (List ℕ)) (s : State) : Type 0 where
-  pub known : Known (log ++ book) (s .store) (s .vars)
-  pub logged : Log book log
+-- n variables. What the state says of the clauses taken.
+pub record Sound (n : ℕ) (taken log : List (List ℕ)) (s : State) : Type 0 where
+  pub known : Known (log ++ taken) (s .store) (s .vars)
+  pub logged : Log taken log
   -- asked for while there may be a model
-  pub covers : s .ok ≡ true → Covers book (s .store) (s .vars)
-  pub range : Every (λ c. Every (λ l. l < 2 * n) c) book
-  pub bad : s .ok ≡ false → Rup (log ++ book) []
+  pub covers : s .ok ≡ true → Covers taken (s .store) (s .vars)
+  pub range : Every (λ c. Every (λ l. l < 2 * n) c) taken
+  pub bad : s .ok ≡ false → Rup (log ++ taken) []
 
 -- the state between two records
-pub record Ready (cfg : Config) (book log : List (List ℕ)) (s : State) : Type 0 where
+pub record Ready (cfg : Config) (taken log : List (List ℕ)) (s : State) : Type 0 where
   pub formed : WellFormed cfg s
   pub watching : s .ok ≡ true → Watching cfg s
   pub level : decision-level (s .vars) ≡ 0
-  pub sound : Sound (cfg .variables) book log s
+  pub sound : Sound (cfg .variables) taken log s
 
 -- ---- a run starts
 
@@ -98,7 +98,7 @@ agrees-same {ρ} h a =
       fixed = λ p i z. let b = h .forth p i z in a .fixed p (b .0) (b .1);
     }
 
-pub sound-same : {n : ℕ} {book log : List (List ℕ)} {s s′ : State} → SameBase s s′ → Sound n book log s → Sound n book log s′
+pub sound-same : {n : ℕ} {taken log : List (List ℕ)} {s s′ : State} → SameBase s s′ → Sound n taken log s → Sound n taken log s′
 sound-same h k =
     record {
       known = λ S c. knows-same h (k .known S c);

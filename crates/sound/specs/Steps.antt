@@ -1,4 +1,4 @@
--- The steps of a search keep what the state says of the book: going back, opening a level, deciding, propagating.
+-- The steps of a search keep what the state says of the clauses taken: going back, opening a level, deciding, propagating.
 use mathlib.Core.Path.{_≡_, refl, ap, sym, _∙_, subst}
 use mathlib.Core.Bool.{Bool, true, false, true≢false}
 use mathlib.Core.List.{List, [], _∷_, _++_, reverse, List·Memᴰ·head as here, List·Memᴰ·tail as there, List·Memᴰ·not-nil as not-nil, List·Memᴰ·append-cases as append-cases}
@@ -69,12 +69,12 @@ open-base s w p f =
     (enqueue-base (with-vars s (new-decision-level (s .vars))) (open-assignment w) p no-reason (f .range) (f .unset)
     (omega (arith, level-more (s .vars))))
 
-module _ {n : ℕ} {book log : List (List ℕ)} {s : State} (k : Sound n book log s) where
-  pub cancel-sound : {cs : List (List ℕ)} (phase level : ℕ) → Assignment n cs (s .vars) → Sound n book log (cancel-until phase s level)
+module _ {n : ℕ} {taken log : List (List ℕ)} {s : State} (k : Sound n taken log s) where
+  pub cancel-sound : {cs : List (List ℕ)} (phase level : ℕ) → Assignment n cs (s .vars) → Sound n taken log (cancel-until phase s level)
   cancel-sound phase level w = sound-same (cancel-base phase s level w) k
 
   -- no model is left, whatever the assumptions
-  pub bad-sound : Rup (log ++ book) [] → Sound n book log (with-ok s false)
+  pub bad-sound : Rup (log ++ taken) [] → Sound n taken log (with-ok s false)
   bad-sound r =
       record {
         known = λ S c. let x = k .known S c in record { stored = x .stored; fixed = x .fixed };
@@ -148,7 +148,7 @@ module _ {n : ℕ} {s₀ s : State} (a : Advance n s₀ s) where
   advance-agrees ρ x =
       record { stored = reordered-sat ρ (x .stored); fixed = λ p i z. x .fixed p (ext .grown .on p i) (ext .grown .level p i ∙ z) }
 
-  pub advance-sound : {book log : List (List ℕ)} → Assignment n (s .store .clauses) (s .vars) → Sound n book log s₀ → Sound n book log s
+  pub advance-sound : {taken log : List (List ℕ)} → Assignment n (s .store .clauses) (s .vars) → Sound n taken log s₀ → Sound n taken log s
   advance-sound w k =
       record {
         known = λ S c. advance-knows S w (k .known S c);

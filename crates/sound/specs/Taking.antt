@@ -1,4 +1,4 @@
--- Taking a clause keeps what the state says of the book; answer 0 leaves it without a model.
+-- Taking a clause keeps what the state says of the clauses taken; answer 0 leaves them without a model.
 use mathlib.Core.Path.{_≡_, refl, ap, sym, _∙_}
 use mathlib.Core.Logic.{_⊎_, inl, inr, _↔_}
 use mathlib.Core.Bool.{Bool, true, false, true≢false}
@@ -25,48 +25,48 @@ use Rattle.sound.specs.Mono.{within-behind, within-more, closed-mono, ru
 use Rattle.sound.specs.Intake.{Kept, kept-of}
 use Rattle.sound.specs.Sound.{Agrees, Sound, Ready}
 
--- ---- one clause more in the book
+-- ---- one clause more
 
 -- what the step from s to s′ has to show, when clause c is taken
-record Grows (book log : List (List ℕ)) (c : List ℕ) (s s′ : State) : Type 0 where
+record Grows (taken log : List (List ℕ)) (c : List ℕ) (s s′ : State) : Type 0 where
   known : (S : ℕ → Bool) → Knows S (s .store) (s .vars) → Respects S c → Knows S (s′ .store) (s′ .vars)
   ok : s′ .ok ≡ true → s .ok ≡ true
   before : s′ .ok ≡ true → (ρ : ℕ → ℕ) → Agrees ρ (s′ .store) (s′ .vars) → Agrees ρ (s .store) (s .vars)
   true-now : s′ .ok ≡ true → (ρ : ℕ → ℕ) → Row ρ → Agrees ρ (s′ .store) (s′ .vars) → Sat ρ c
-  bad : s′ .ok ≡ false → Rup (log ++ (book ++ (c ∷ []))) []
+  bad : s′ .ok ≡ false → Rup (log ++ (taken ++ (c ∷ []))) []
 
-module _ {n : ℕ} {book log : List (List ℕ)} {s : State} (k : Sound n book log s) (c : List ℕ) where
-  -- a set closed over the new book
-  module _ (S : ℕ → Bool) (h : Closed S (log ++ (book ++ (c ∷ [])))) where
-    pub closed-before : Closed S (log ++ book)
-    closed-before = closed-mono S (log ++ book) (log ++ (book ++ (c ∷ []))) (within-behind log book (book ++ (c ∷ [])) (within-more book (c ∷ []))) h
+module _ {n : ℕ} {taken log : List (List ℕ)} {s : State} (k : Sound n taken log s) (c : List ℕ) where
+  -- a set closed over the clauses taken now
+  module _ (S : ℕ → Bool) (h : Closed S (log ++ (taken ++ (c ∷ [])))) where
+    pub closed-before : Closed S (log ++ taken)
+    closed-before = closed-mono S (log ++ taken) (log ++ (taken ++ (c ∷ []))) (within-behind log taken (taken ++ (c ∷ [])) (within-more taken (c ∷ []))) h
 
     pub respects-new : Respects S c
-    respects-new = h .respects c (in-right log (in-right book (here refl)))
+    respects-new = h .respects c (in-right log (in-right taken (here refl)))
 
-  rup-before : Rup (log ++ book) [] → Rup (log ++ (book ++ (c ∷ []))) []
-  rup-before = rup-mono (log ++ book) (log ++ (book ++ (c ∷ []))) [] (within-behind log book (book ++ (c ∷ [])) (within-more book (c ∷ [])))
+  rup-before : Rup (log ++ taken) [] → Rup (log ++ (taken ++ (c ∷ []))) []
+  rup-before = rup-mono (log ++ taken) (log ++ (taken ++ (c ∷ []))) [] (within-behind log taken (taken ++ (c ∷ [])) (within-more taken (c ∷ [])))
 
-  sound-grows : Every (λ l. l < 2 * n) c → (s′ : State) → Grows book log c s s′ → Sound n (book ++ (c ∷ [])) log s′
+  sound-grows : Every (λ l. l < 2 * n) c → (s′ : State) → Grows taken log c s s′ → Sound n (taken ++ (c ∷ [])) log s′
   sound-grows r s′ g =
       record {
         known = λ S h. g .known S (k .known S (closed-before S h)) (respects-new S h);
-        logged = log-mono book (book ++ (c ∷ [])) log (within-more book (c ∷ [])) (k .logged);
+        logged = log-mono taken (taken ++ (c ∷ [])) log (within-more taken (c ∷ [])) (k .logged);
         covers = λ e ρ x a.
-            every-append (Sat ρ) book (k .covers (g .ok e) ρ x (g .before e ρ a)) (every-one (Sat ρ) (g .true-now e ρ x a));
-        range = every-append (λ d. Every (λ l. l < 2 * n) d) book (k .range) (every-one (λ d. Every (λ l. l < 2 * n) d) r);
+            every-append (Sat ρ) taken (k .covers (g .ok e) ρ x (g .before e ρ a)) (every-one (Sat ρ) (g .true-now e ρ x a));
+        range = every-append (λ d. Every (λ l. l < 2 * n) d) taken (k .range) (every-one (λ d. Every (λ l. l < 2 * n) d) r);
         bad = g .bad;
       }
 
 -- ---- the cases
 
-module _ {cfg : Config} {book log : List (List ℕ)} {s : State} (w : WellFormed cfg s) (z : decision-level (s .vars) ≡ 0)
-    (k : Sound (cfg .variables) book log s) (c : List ℕ) (range : Every (λ l. l < 2 * cfg .variables) c) where
+module _ {cfg : Config} {taken log : List (List ℕ)} {s : State} (w : WellFormed cfg s) (z : decision-level (s .vars) ≡ 0)
+    (k : Sound (cfg .variables) taken log s) (c : List ℕ) (range : Every (λ l. l < 2 * cfg .variables) c) where
   -- the whole trail is of level 0
   at-zero : (p : ℕ) → p ∈ (s .vars .trail) → level-lit (s .vars) p ≡ 0
   at-zero p i = omega (arith, trail-level (w .vars) p i)
 
-  grows-shut : s .ok ≡ false → Grows book log c s s
+  grows-shut : s .ok ≡ false → Grows taken log c s s
   grows-shut e =
       record {
         known = λ S x r. x;
@@ -81,7 +81,7 @@ module _ {cfg : Config} {book log : List (List ℕ)} {s : State} (w : WellFormed
   dropped-sat l i (inl t) ρ r a = let j = on-is-true (w .vars) l (range l i) t in (l, i, a .fixed l j (at-zero l j))
   dropped-sat l i (inr j) ρ r a = split (on? (sat ρ l)) (λ e. (l, i, e)) (λ e. (neg l, j, sat-neg ρ r l e))
 
-  grows-dropped : s .ok ≡ true → (l : ℕ) → l ∈ c → (is-true (s .vars .values) l ≡ true) ⊎ (neg l ∈ c) → Grows book log c s s
+  grows-dropped : s .ok ≡ true → (l : ℕ) → l ∈ c → (is-true (s .vars .values) l ≡ true) ⊎ (neg l ∈ c) → Grows taken log c s s
   grows-dropped e l i h =
       record {
         known = λ S x r. x;
@@ -96,7 +96,7 @@ module _ {cfg : Config} {book log : List (List ℕ)} {s : State} (w : WellFormed
       → Every (λ l. (l ∈ kept) ⊎ (S (neg l) ≡ true)) c
   left-out kept h S x l i = split (h .rest l i) inl (λ j. inr (x .fixed (neg l) j (at-zero (neg l) j)))
 
-  grows-empty : s .ok ≡ true → Kept (cfg .variables) (s .vars) c [] → Grows book log c s (with-ok s false)
+  grows-empty : s .ok ≡ true → Kept (cfg .variables) (s .vars) c [] → Grows taken log c s (with-ok s false)
   grows-empty e h =
       record {
         known = λ S x r. record { stored = x .stored; fixed = x .fixed };
@@ -115,7 +115,7 @@ module _ {cfg : Config} {book log : List (List ℕ)} {s : State} (w : WellFormed
     old-level : (p : ℕ) → p ∈ (s .vars .trail) → level-lit vs′ p ≡ level-lit (s .vars) p
     old-level p i = enqueue-level (s .vars) l no-reason (var p) (unset-fresh (w .vars) l (h .unset l (here refl)) p i)
 
-    grows-unit : s .ok ≡ true → Grows book log c s (with-vars s vs′)
+    grows-unit : s .ok ≡ true → Grows taken log c s (with-vars s vs′)
     grows-unit e =
         record {
           known = λ S x r.
@@ -136,7 +136,7 @@ module _ {cfg : Config} {book log : List (List ℕ)} {s : State} (w : WellFormed
           bad = λ o. absurd (true≢false (sym e ∙ o));
         }
 
-  grows-stored : s .ok ≡ true → (d : List ℕ) → Kept (cfg .variables) (s .vars) c d → Grows book log c s (with-store s (attach-clause (s .store) d))
+  grows-stored : s .ok ≡ true → (d : List ℕ) → Kept (cfg .variables) (s .vars) c d → Grows taken log c s (with-store s (attach-clause (s .store) d))
   grows-stored e d h =
       record {
         known = λ S x r.
@@ -154,7 +154,7 @@ module _ {cfg : Config} {book log : List (List ℕ)} {s : State} (w : WellFormed
         bad = λ o. absurd (true≢false (sym e ∙ o));
       }
 
-  taken-sound : (t : Taken) → Intaken cfg s c t → Sound (cfg .variables) (fed book c (t .answer)) log (t .state)
+  taken-sound : (t : Taken) → Intaken cfg s c t → Sound (cfg .variables) (fed taken c (t .answer)) log (t .state)
   unfolding fed
   taken-sound t (closed e) = sound-grows k c range s (grows-shut e)
   taken-sound t (dropped-clause e l i h) = sound-grows k c range s (grows-dropped e l i h)
@@ -192,32 +192,32 @@ taken-from (no-storage e a b more r x) = inr e
 
 -- ---- `add-clause`
 
-module _ {cfg : Config} {book log : List (List ℕ)} {s : State} (k : Ready cfg book log s) (small : 2 * cfg .variables ≤ undef-lit) (c : List ℕ)
+module _ {cfg : Config} {taken log : List (List ℕ)} {s : State} (k : Ready cfg taken log s) (small : 2 * cfg .variables ≤ undef-lit) (c : List ℕ)
     (range : Every (λ l. l < 2 * cfg .variables) c) where
-  taken : Intaken cfg s c (add-clause cfg s c)
-  taken = intaken cfg s c small range
+  intake : Intaken cfg s c (add-clause cfg s c)
+  intake = intaken cfg s c small range
 
   watches-after : s .ok ≡ true → Watching cfg (add-clause cfg s c .state)
   watches-after e = add-clause-watching (k .watching e) (k .level) c range small
 
-  -- a clause answered 0 or 1 is in the book now
-  pub add-ready : Ready cfg (fed book c (add-clause cfg s c .answer)) log (add-clause cfg s c .state)
+  -- a clause answered 0 or 1 is taken now
+  pub add-ready : Ready cfg (fed taken c (add-clause cfg s c .answer)) log (add-clause cfg s c .state)
   add-ready =
       record {
-        formed = split (taken-from taken) (λ e. rw (e .1) (k .formed)) (λ e. watches-after e .formed);
-        watching = λ o. split (taken-from taken) (λ e. absurd (true≢false (sym o ∙ ap (λ x. x .ok) (e .1) ∙ e .0))) watches-after;
-        level = intaken-level (add-clause cfg s c) taken ∙ k .level;
-        sound = taken-sound (k .formed) (k .level) (k .sound) c range (add-clause cfg s c) taken;
+        formed = split (taken-from intake) (λ e. rw (e .1) (k .formed)) (λ e. watches-after e .formed);
+        watching = λ o. split (taken-from intake) (λ e. absurd (true≢false (sym o ∙ ap (λ x. x .ok) (e .1) ∙ e .0))) watches-after;
+        level = intaken-level (add-clause cfg s c) intake ∙ k .level;
+        sound = taken-sound (k .formed) (k .level) (k .sound) c range (add-clause cfg s c) intake;
       }
 
   pub add-answer : add-clause cfg s c .answer ≤ 2
-  add-answer = taken-answer taken
+  add-answer = taken-answer intake
 
   -- answer 0 exactly when `ok` is false afterwards
   pub add-zero : (add-clause cfg s c .answer ≡ 0) ↔ (add-clause cfg s c .state .ok ≡ false)
-  add-zero = taken-zero taken
+  add-zero = taken-zero intake
 
-  -- answered 0: the book has no model with it
-  pub add-refuted : add-clause cfg s c .answer ≡ 0 → Rup (log ++ (book ++ (c ∷ []))) []
+  -- answered 0: with it the clauses taken have no model
+  pub add-refuted : add-clause cfg s c .answer ≡ 0 → Rup (log ++ (taken ++ (c ∷ []))) []
   unfolding fed
   add-refuted e = rw e at (add-ready .sound .bad (add-zero .0 e))

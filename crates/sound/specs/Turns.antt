@@ -51,8 +51,8 @@ no-conflict-cases P cfg ps budget nof-conflicts conflicts conflict-c x f g h k =
     go e (complete s) z = rw (e, z, on-no-conflict) (h s z)
     go e (failed s final) z = rw (e, z, on-no-conflict) (k s final z)
 
-module _ {cfg : Config} {ps : List ℕ} (range : Every (λ p. p < 2 * cfg .variables) ps) {book log : List (List ℕ)} (x : Solver)
-    (k : Solving cfg ps book log (x .state)) (done : x .state .qhead ≡ length (x .state .vars .trail))
+module _ {cfg : Config} {ps : List ℕ} (range : Every (λ p. p < 2 * cfg .variables) ps) {taken log : List (List ℕ)} (x : Solver)
+    (k : Solving cfg ps taken log (x .state)) (done : x .state .qhead ≡ length (x .state .vars .trail))
     (settled : (c : ℕ) → c < length (x .state .store .clauses) → Settled (x .state .vars) (clause-at (x .state .store) c)) where
   outcome : Outcome cfg ps (x .state) (decide (x .activity .activities) ps (x .state))
   outcome = decide-outcome range (x .activity .activities) (k .searching)
@@ -75,7 +75,7 @@ module _ {cfg : Config} {ps : List ℕ} (range : Every (λ p. p < 2 * cfg .varia
           (open-two (subst (λ v. getD v (var (getD (clause-at (x .state .store) c) 0 0)) 0 ≡ l-undef) (sym (d .values)) a)
           (subst (λ v. getD v (var (getD (clause-at (x .state .store) c) 1 0)) 0 ≡ l-undef) (sym (d .values)) b))
 
-  solving-of : (s : State) → Searching cfg ps s → Watching cfg s → SameBase (x .state) s → Solving cfg ps book log s
+  solving-of : (s : State) → Searching cfg ps s → Watching cfg s → SameBase (x .state) s → Solving cfg ps taken log s
   solving-of s d w b = record { searching = d; watching = w; sound = sound-same b (k .sound); ok = b .ok ∙ k .ok }
 
   -- what `decide` comes to, all at once
@@ -89,23 +89,23 @@ module _ {cfg : Config} {ps : List ℕ} (range : Every (λ p. p < 2 * cfg .varia
     base-is : SameBase (x .state) (decision-state d)
     base-is = subst (λ y. SameBase (x .state) (decision-state y)) e base
 
-  completed : (s : State) → decide (x .activity .activities) ps (x .state) ≡ complete s → Verdict cfg ps book TRUE s
+  completed : (s : State) → decide (x .activity .activities) ps (x .state) ≡ complete s → Verdict cfg ps taken TRUE s
   completed s e =
       let d : Completed cfg ps (x .state) s = outcome-is (complete s) e in
       let w : Watching cfg s = watches-is (complete s) e .watching in
       let r = solving-of s (d .searching) w (base-is (complete s) e) in
       models s log r (true-common (w .formed) (d .all) (still-settled s d) (r .sound) (r .ok) ps (d .assumed))
 
-  falls : (s : State) (final : List ℕ) → decide (x .activity .activities) ps (x .state) ≡ failed s final → Verdict cfg ps book (FALSE final) s
+  falls : (s : State) (final : List ℕ) → decide (x .activity .activities) ps (x .state) ≡ failed s final → Verdict cfg ps taken (FALSE final) s
   falls s final e =
       let d : Failed cfg ps (x .state) s final = outcome-is (failed s final) e in
       let r = solving-of s (d .searching) (watches-is (failed s final) e .watching) (base-is (failed s final) e) in
       fails s log r final (failed-finals d (r .sound))
 
   no-conflict-turned : (budget nof-conflicts conflicts conflict-c : ℕ)
-      → Turned cfg ps book (on-no-conflict cfg ps budget nof-conflicts conflicts conflict-c x)
+      → Turned cfg ps taken (on-no-conflict cfg ps budget nof-conflicts conflicts conflict-c x)
   no-conflict-turned budget nof-conflicts conflicts conflict-c =
-      no-conflict-cases (Turned cfg ps book) cfg ps budget nof-conflicts conflicts conflict-c x
+      no-conflict-cases (Turned cfg ps taken) cfg ps budget nof-conflicts conflicts conflict-c x
       (over (record { solver = with-state x (cancel-until (cfg .phase) (x .state) 0); conflicts = conflicts; status = UNDEF })
       (undecided (cancel-until (cfg .phase) (x .state) 0) log
       (record {
@@ -123,7 +123,7 @@ module _ {cfg : Config} {ps : List ℕ} (range : Every (λ p. p < 2 * cfg .varia
 -- ---- a turn
 
 module _ {cfg : Config} (small : cfg .max-clauses ≤ no-reason) {ps : List ℕ} (range : Every (λ p. p < 2 * cfg .variables) ps)
-    {book log : List (List ℕ)} (budget nof-conflicts conflicts conflict-c : ℕ) (x : Solver) (k : Solving cfg ps book log (x .state)) where
+    {taken log : List (List ℕ)} (budget nof-conflicts conflicts conflict-c : ℕ) (x : Solver) (k : Solving cfg ps taken log (x .state)) where
   turn-of : Propagated → Turn
   turn-of r =
       elim (r .conflict) [
@@ -131,7 +131,7 @@ module _ {cfg : Config} (small : cfg .max-clauses ≤ no-reason) {ps : List ℕ}
         | none ↦ on-no-conflict cfg ps budget nof-conflicts conflicts conflict-c (with-state x (r .state))
       ]
 
-  turn-from : (r : Propagated) → Finished (Rested cfg (x .state)) (Clashed cfg (x .state)) r → Turned cfg ps book (turn-of r)
+  turn-from : (r : Propagated) → Finished (Rested cfg (x .state)) (Clashed cfg (x .state)) r → Turned cfg ps taken (turn-of r)
   unfolding turn-of
   turn-from r (quiet s h e) =
       no-conflict-turned range (with-state x s)
@@ -147,6 +147,6 @@ module _ {cfg : Config} (small : cfg .max-clauses ≤ no-reason) {ps : List ℕ}
       conflict-turned small (with-state x s) c (h .conflict) (advance-searching cfg ps (x .state) s (h .advance) w (k .searching))
       (advance-sound (h .advance) (w .vars) (k .sound)) (h .advance .ok ∙ k .ok) conflicts conflict-c
 
-  pub turn-turned : Turned cfg ps book (turn cfg ps budget nof-conflicts conflicts conflict-c x)
+  pub turn-turned : Turned cfg ps taken (turn cfg ps budget nof-conflicts conflicts conflict-c x)
   unfolding turn turn-of
   turn-turned = turn-from (propagate (cfg .variables) (x .state)) (propagated cfg small (x .state) (k .watching))

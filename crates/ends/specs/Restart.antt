@@ -89,14 +89,14 @@ pub record Restarted (cfg : Config) (assumptions : List ℕ) (budget a : ℕ) (x
   pub high : a + decision-level (x .state .vars) ≤ height cfg assumptions budget → a′ ≤ height cfg assumptions budget
 
 -- a turn that ends in another search
-record Stopped (cfg : Config) (assumptions : List ℕ) (nof c b : ℕ) (y : Solver) (r : Searched) : Type 0 where
-  ongoing : Ongoing cfg assumptions (r .solver .state)
-  flat : decision-level (r .solver .state .vars) ≡ 0
-  kept : credit cfg (r .solver .state) ≤ credit cfg (y .state)
-  reached : nof ≤ b
-  conflicts : r .conflicts ≡ c
+pub record Stopped (cfg : Config) (assumptions : List ℕ) (nof c b : ℕ) (y : Solver) (r : Searched) : Type 0 where
+  pub ongoing : Ongoing cfg assumptions (r .solver .state)
+  pub flat : decision-level (r .solver .state .vars) ≡ 0
+  pub kept : credit cfg (r .solver .state) ≤ credit cfg (y .state)
+  pub reached : nof ≤ b
+  pub conflicts : r .conflicts ≡ c
 
-stops : {cfg : Config} {ps : List ℕ} {budget nof c b : ℕ} {y : Solver} {t : Turn} → Comes cfg ps budget nof c b y t
+pub stops : {cfg : Config} {ps : List ℕ} {budget nof c b : ℕ} {y : Solver} {t : Turn} → Comes cfg ps budget nof c b y t
     → Then (λ _ _ _. Unit {0}) (λ r. Again budget r → Stopped cfg ps nof c b y r) t
 stops (conflict confl s s′ k l e) = tt
 stops (decision s s′ g e d) = tt

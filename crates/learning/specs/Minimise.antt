@@ -67,11 +67,11 @@ drop-cases P st vs mask kept l ls m f g = split (same? (reason-lit vs l) no-reas
 
 module _ (n : ℕ) (st : Store) (vs : VarState) (t : List ℕ) (w : Entries n (st .clauses) vs t) (base : List ℕ) where
   -- K is left of ls: each literal is kept, or the literals of its reason are marked in the end
-  record Min (m ls K : List ℕ) : Type 0 where
-    last : List ℕ
-    good : Good n st vs t w base [] last
-    grows : Grows m last
-    each : Every (λ q. (q ∈ K) ⊎ Done st vs last q) ls
+  pub record Min (m ls K : List ℕ) : Type 0 where
+    pub last : List ℕ
+    pub good : Good n st vs t w base [] last
+    pub grows : Grows m last
+    pub each : Every (λ q. (q ∈ K) ⊎ Done st vs last q) ls
 
   min-keep : (m : List ℕ) (q : ℕ) (ls K : List ℕ) → Min m ls K → Min m (q ∷ ls) (q ∷ K)
   min-keep m q ls K r =
@@ -133,10 +133,10 @@ pub record Minimisable (n : ℕ) (st : Store) (vs : VarState) (ls seen : List �
   pub marks : MarksOf n seen ls
 
 module _ (n : ℕ) (st : Store) (vs : VarState) (ls seen : List ℕ) (h : Minimisable n st vs ls seen) where
-  abbrev t : List ℕ
+  abbrev pub t : List ℕ
   t = reverse (vs .trail)
 
-  start-good : Good n st vs t (h .assignment .entries) ls [] seen
+  pub start-good : Good n st vs t (h .assignment .entries) ls [] seen
   start-good p i m = inl (go (h .marks .only (var p) m))
     where
       go : (q : ℕ) × (q ∈ ls) × (var q ≡ var p) → neg p ∈ ls
@@ -152,7 +152,7 @@ module _ (n : ℕ) (st : Store) (vs : VarState) (ls seen : List ℕ) (h : Minimi
       (h .marks .sized) start-good []
 
   -- what S falsifies of the literals kept, it falsifies of all
-  min-sound : (S : ℕ → Bool) → Knows S st vs → (K : List ℕ) → Min n st vs t (h .assignment .entries) ls seen ls K → Refutes S K → Refutes S ls
+  pub min-sound : (S : ℕ → Bool) → Knows S st vs → (K : List ℕ) → Min n st vs t (h .assignment .entries) ls seen ls K → Refutes S K → Refutes S ls
   min-sound S k K r f q i =
       cut S n st vs k (r .last) t (λ p j. from-reverse (vs .trail) j) (h .assignment .entries)
       (λ p j m. split (r .good p j m)

@@ -63,7 +63,10 @@ enum engine_cause {
  *
  * If it is accepted, *refusal is 0 and the result is how many cells of out were written. The first 32 V + 8 C + L + 64 cells of work and the first V
  * activities are then 0; what they held before does not matter, and the rest of both, and of out, is as it was.
- * If it is refused, *refusal is its number, the result its place, and work, activities and out are as they were. */
+ * If it is refused, *refusal is its number, the result its place, and work, activities and out are as they were.
+ *
+ * "As they were" is proved of every cell, but of an activity that is a NaN only that it is still one: the proof's floats have a single NaN, without sign and payload. No code writes
+ * the activities that are to stay, so their bits stay too; bindings/rust/check.rs looks at NaNs of several payloads. */
 uint64_t engine_run(const uint32_t *script, size_t script_len,
                     uint32_t *work, size_t work_len,
                     double *activities, size_t activities_len,

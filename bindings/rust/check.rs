@@ -6,10 +6,26 @@ mod engine;
 use engine::Refusal;
 use std::{env, fs, process};
 
-const EXTRA: usize = 8; // elements behind what is asked for: they must stay as they were
+const EXTRA: usize = 16; // elements behind what is asked for: they must stay as they were
 
 fn noise(i: usize) -> u32 {
     (i % 65521) as u32 * 65537 + 7
+}
+
+/// What an activity holds before a run, by its bits: plain numbers, both zeros, infinities, and NaNs of both signs, quiet and signalling, with payloads. A NaN that is
+/// found is to be left bit by bit, which the proof does not see: to it all NaNs are one.
+fn noise_bits(i: usize) -> u64 {
+    let payload = u64::from(noise(i)) << 19 | 1; // not 0, and below the quiet bit
+    match i % 8 {
+        0 => 0x7ff0_0000_0000_0000 | payload, // signalling
+        1 => 0xfff0_0000_0000_0000 | payload,
+        2 => 0x7ff8_0000_0000_0000 | payload, // quiet
+        3 => 0xfff8_0000_0000_0000 | payload,
+        4 => f64::INFINITY.to_bits(),
+        5 => (-0.0f64).to_bits(),
+        6 => u64::MAX,
+        _ => f64::from(noise(i)).to_bits(),
+    }
 }
 
 fn numbers(text: &str) -> Vec<u32> {
@@ -34,7 +50,7 @@ fn refusal(text: &str) -> Option<Refusal> {
 
 fn holds(script: &[u32], lengths: [usize; 3], want: Result<Vec<u32>, Refusal>) -> bool {
     let mut work: Vec<u32> = (0..lengths[0]).map(noise).collect();
-    let mut activities: Vec<f64> = (0..lengths[1]).map(|i| noise(i).into()).collect();
+    let mut activities: Vec<f64> = (0..lengths[1]).map(|i| f64::from_bits(noise_bits(i))).collect();
     let mut out: Vec<u32> = (0..lengths[2]).map(noise).collect();
     let got = engine::run(script, &mut work, &mut activities, &mut out);
     // what is written, and how many cells of work and activities are cleared
@@ -45,7 +61,7 @@ fn holds(script: &[u32], lengths: [usize; 3], want: Result<Vec<u32>, Refusal>) -
     got == answered
         && (0..out.len()).all(|i| out[i] == *first.get(i).unwrap_or(&noise(i)))
         && (0..work.len()).all(|i| work[i] == if i < used { 0 } else { noise(i) })
-        && (0..activities.len()).all(|i| activities[i].to_bits() == if i < vars { 0 } else { f64::from(noise(i)).to_bits() })
+        && (0..activities.len()).all(|i| activities[i].to_bits() == if i < vars { 0 } else { noise_bits(i) })
 }
 
 fn check(line: &str) -> bool {
@@ -61,7 +77,12 @@ fn check(line: &str) -> bool {
             engine::out_len(&script) as usize + EXTRA,
         ]
     };
-    holds(&script, [lengths[0], lengths[1], lengths[2]], refusal(expected).map_or_else(|| Ok(cells(expected)), Err))
+    let want = refusal(expected).map_or_else(|| Ok(cells(expected)), Err);
+    let more = match &want {
+        Err(Refusal { number: 1..=5 | 7.., .. }) => EXTRA, // with more activities it is refused alike, and each kind of NaN is left
+        _ => 0,
+    };
+    holds(&script, [lengths[0], lengths[1], lengths[2]], want.clone()) && holds(&script, [lengths[0], lengths[1] + more, lengths[2]], want)
 }
 
 fn main() {

@@ -172,8 +172,17 @@ impl Book {
         }
     }
 
+    /// What a search need not find out: the engine cannot count, and would try the seatings one by one.
+    fn too_many(&self) -> Option<String> {
+        let (materials, valves) = (self.materials.len(), self.valves.len());
+        (materials > valves).then(|| format!("no loading: {materials} materials are to be loaded, and the rack has {valves} valves"))
+    }
+
     /// Asks twice, first without the wishes: so it is known whether the bans alone leave no loading.
     fn ask(&self) -> Result<String, String> {
+        if let Some(sentence) = self.too_many() {
+            return Ok(sentence);
+        }
         if self.clauses > CLAUSES {
             return Err(TOO_LARGE.into());
         }

@@ -9,126 +9,18 @@
 //! The first failing scripts are made smaller and written to mismatch.txt in the folder of the run, smallest first;
 //! with SHRINK=0 in the environment, as they are.
 
-#[path = "../bindings/rust/engine.rs"]
-#[allow(dead_code)]
-mod binding;
+mod compare;
+mod lent;
 mod shapes;
 
-use oracle::After;
+use compare::{attempt, Limits};
+use lent::{work_needed, Answer, Lent};
 use shapes::{smaller, Record, Rng, Script};
 use std::fmt::Write as _;
 use std::io::Write as _;
 use std::time::Instant;
 
-// ---- the engine
-
-#[derive(PartialEq, Debug)]
-enum Answer {
-    Ran(Vec<u32>),
-    Refused(u32, u64),
-}
-
-/// The slices that are lent.
-#[derive(Default)]
-struct Lent {
-    work: Vec<u32>,
-    activities: Vec<f64>,
-    out: Vec<u32>,
-}
-
-fn noise(i: usize) -> u32 {
-    (i as u32).wrapping_mul(0x9e3779b9) | 1
-}
-
-fn noise_float(i: usize) -> f64 {
-    if i % 3 == 0 { f64::NAN } else { 1e300 / (i + 1) as f64 }
-}
-
-fn work_needed(script: &[u32]) -> usize {
-    32 * script[0] as usize + 8 * script[1] as usize + script[2] as usize + 64
-}
-
-fn out_needed(script: &Script) -> usize {
-    let solves = script.records.iter().filter(|r| matches!(r, Record::Solve(..))).count();
-    script.records.len() - solves + solves * (script.vars as usize + 4)
-}
-
-impl Lent {
-    fn fill(&mut self, work: usize, activities: usize, out: usize) {
-        self.work.clear();
-        self.work.extend((0..work).map(noise));
-        self.activities.clear();
-        self.activities.extend((0..activities).map(noise_float));
-        self.out.clear();
-        self.out.extend((0..out).map(noise));
-    }
-
-    fn run(&mut self, script: &[u32]) -> (u32, u64) {
-        let mut refusal = 77;
-        let result = unsafe {
-            binding::c::engine_run(
-                script.as_ptr(),
-                script.len(),
-                self.work.as_mut_ptr(),
-                self.work.len(),
-                self.activities.as_mut_ptr(),
-                self.activities.len(),
-                self.out.as_mut_ptr(),
-                self.out.len(),
-                &mut refusal,
-            )
-        };
-        (refusal, result)
-    }
-
-    /// Cells from the given places on are as `fill` left them.
-    fn untouched(&self, work: usize, activities: usize, out: usize) -> Result<(), String> {
-        let same = |a: f64, b: f64| a.to_bits() == b.to_bits();
-        if let Some(i) = (work..self.work.len()).find(|&i| self.work[i] != noise(i)) {
-            return Err(format!("work cell {} was written", i));
-        }
-        if let Some(i) = (activities..self.activities.len()).find(|&i| !same(self.activities[i], noise_float(i))) {
-            return Err(format!("activity {} was written", i));
-        }
-        if let Some(i) = (out..self.out.len()).find(|&i| self.out[i] != noise(i)) {
-            return Err(format!("out cell {} was written", i));
-        }
-        Ok(())
-    }
-
-    /// The answer, and all that document 01 says of the slices.
-    fn answer(&mut self, script: &[u32]) -> Result<Answer, String> {
-        let (refusal, result) = self.run(script);
-        if refusal != 0 {
-            self.untouched(0, 0, 0)?;
-            return Ok(Answer::Refused(refusal, result));
-        }
-        let n = result as usize;
-        if n > self.out.len() {
-            return Err(format!("{} out cells, and {} were lent", n, self.out.len()));
-        }
-        let (need, vars) = (work_needed(script), script[0] as usize);
-        self.untouched(need, vars, n)?;
-        if let Some(i) = (0..need).find(|&i| self.work[i] != 0) {
-            return Err(format!("work cell {} is not zero", i));
-        }
-        if let Some(i) = (0..vars).find(|&i| self.activities[i].to_bits() != 0) {
-            return Err(format!("activity {} is not zero", i));
-        }
-        Ok(Answer::Ran(self.out[..n].to_vec()))
-    }
-}
-
-// ---- one comparison
-
-/// How C and L stand to what the run stores.
-#[derive(Clone, Copy)]
-enum Limits {
-    Exact,
-    Slack(u32, u32),
-    /// So many clauses or literals are missing.
-    Short { clauses: u32, literals: u32 },
-}
+// ---- sums
 
 #[derive(Default, Clone)]
 struct Totals {
@@ -168,62 +60,6 @@ impl Totals {
             self.conflicts, self.restarts, self.longest, self.past_5000, self.short, self.mismatches, seconds
         )
     }
-}
-
-struct Tried {
-    cells: Vec<u32>,
-    oracle: Vec<u32>,
-    engine: Result<Answer, String>,
-    fault: Option<String>,
-    short: bool,
-    cost: oracle::Cost,
-}
-
-fn limits(kind: Limits, stored: (u64, u64)) -> (u32, u32) {
-    let (c, l) = (stored.0 as u32, stored.1 as u32);
-    let (c, l) = match kind {
-        Limits::Exact => (c, l),
-        Limits::Slack(a, b) => (c + a, l + b),
-        Limits::Short { clauses, literals } => (c.saturating_sub(clauses), l.saturating_sub(literals)),
-    };
-    (c.min(65535), l.min(1048576))
-}
-
-/// What is wrong, if anything, with the engine's cells.
-fn fault(script: &Script, cells: &[u32], oracle: &[u32], after: &[After], engine: &[u32]) -> (Option<String>, bool) {
-    let passed = after.iter().position(|a| a.clauses > cells[1] as u64 || a.literals > cells[2] as u64);
-    let Some(i) = passed else {
-        let same = oracle == engine;
-        return (if same { None } else { Some("other cells".into()) }, false);
-    };
-    let begin = if i == 0 { 0 } else { after[i - 1].cells };
-    if engine.len() < begin || engine[..begin] != oracle[..begin] {
-        return (Some("other cells before storage is short".into()), true);
-    }
-    let says = &engine[begin..];
-    let right = match script.records[i] {
-        Record::Clause(_) => says.first() == Some(&2),
-        // it stops at a conflict that the oracle has too
-        Record::Solve(..) => says.len() >= 4 && says[0] == 2 && says[2..4] == [1, 2] && (1..=oracle[begin + 1]).contains(&says[1]),
-    };
-    (if right { None } else { Some("storage is short and the answer does not say so".into()) }, true)
-}
-
-fn attempt(lent: &mut Lent, script: &Script, kind: Limits) -> Tried {
-    let mut after = Vec::with_capacity(script.records.len());
-    let mut cells = script.cells(0, 0);
-    let (oracle, cost) = oracle::run_with(&cells, |a| after.push(a));
-    let stored = after.last().map_or((0, 0), |a| (a.clauses, a.literals));
-    (cells[1], cells[2]) = limits(kind, stored);
-    let extra = script.records.len() % 3;
-    lent.fill(work_needed(&cells) + extra, script.vars as usize + extra, out_needed(script) + extra);
-    let engine = lent.answer(&cells);
-    let (fault, short) = match &engine {
-        Ok(Answer::Ran(out)) => fault(script, &cells, &oracle, &after, out),
-        Ok(Answer::Refused(n, p)) => (Some(format!("refused {} at {}", n, p)), false),
-        Err(e) => (Some(e.clone()), false),
-    };
-    Tried { cells, oracle, engine, fault, short, cost }
 }
 
 // ---- a failing script, made smaller

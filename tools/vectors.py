@@ -6,7 +6,7 @@
                                       and ORACLE if given, over them
   tools/vectors.py --random N SEED ORACLE
                                       compare ORACLE and tools/reading.py on N random scripts
-  tools/vectors.py --antt DIR         write DIR/specs/*.antt and DIR/src/lib.rt from vectors/*.txt
+  tools/vectors.py --antt DIR         write DIR/specs/*.antt, but for Cases.antt, and DIR/src/lib.rt from vectors/*.txt
   tools/vectors.py --replay           write crates/replay/stdin and stdout from vectors/*.txt
 
 Cells in oracle.txt come from the oracle. Those in storage.txt and refusals.txt, of which the oracle
@@ -478,48 +478,36 @@ def compare(count, seed, program):
 
 HEAD = """-- %s
 -- Made by tools/vectors.py --antt from vectors/%s.txt.
-use Prim.Native.Nat.{ℕ}
 use mathlib.Core.Path.{_≡_, refl}
 use mathlib.Core.List.{List, [], _∷_}
-use Rattle.model.specs.Exec.{%s}
+use Rattle.vectors.specs.Cases.{Case, %s, failing}
 """
-WIDTH = 110
 
 
-def wrapped(items, first, rest):
-    """`a ∷ b ∷ … ∷ []`, broken before a ∷ where a line would be too long; widths of what stands before it."""
-    lines, now = [], items[0]
-    for item in items[1:]:
-        if len(now) + len(item) + 3 + (first if not lines else rest) > WIDTH:
-            lines.append(now)
-            now = "∷ " + item
-        else:
-            now += " ∷ " + item
-    return ("\n" + " " * rest).join(lines + [now])
+def case(name, comments, kind, *fields):
+    return "".join("    -- %s\n" % c for c in comments) + "    " + " ".join([kind] + ['"%s"' % f for f in (name, *fields)]) + " ∷"
 
 
-def listed(text):
-    return [str(c) for c in reading.cells(text)] + ["[]"]
+def conflicts(cells, out):
+    """How long the definition runs: the conflicts of a script's solves, and one for the script."""
+    return 1 + (reading.run(reading.cells(cells))[1].conflicts if out else 0)
 
 
-def theorem(name, comments, function, cells, lengths, answer):
-    """A script's out cells, or the number and place of its refusal, by running the definition."""
-    left = wrapped(listed(cells), 4 + len(function) + 2 + len(lengths) + 2, 4)
-    if left == "[]":
-        left = "%s [] %s" % (function, lengths)
-    else:
-        left = "%s (%s) %s" % (function, left, lengths)
-    left = left.rstrip()
-    if answer.startswith("refused"):
-        right = answer.replace("refused", "refuses")
-    elif function == "out-of":
-        right = "gives %s" % ("[]" if not answer.strip() else "(%s)" % wrapped(listed(answer), 13, 4))
-    else:
-        right = wrapped(listed(answer), 6, 4)
-    head = "%s : %s ≡ %s" % (name, left, right)
-    if len(head) > WIDTH or "\n" in head:
-        head = "%s :\n    %s\n    ≡ %s" % (name, left, right)
-    return "".join("-- %s\n" % c for c in comments) + "%s\nunfolding %s\n%s = refl\n" % (head, function, name)
+def theorems(cases):
+    """Lists of cases, of which each is one computed test; a long list is cut, since the checker counts a declaration's steps."""
+    parts, weight = [[]], 0
+    for cost, text in cases:
+        if parts[-1] and weight + cost > MOST_CONFLICTS:
+            parts.append([])
+            weight = 0
+        parts[-1].append(text)
+        weight += cost
+    text = ""
+    for number, part in enumerate(parts, 1):
+        name = "cases" if len(parts) == 1 else "cases-%d" % number
+        text += "\n%s : List Case\n%s =\n%s\n    []\n" % (name, name, "\n".join(part))
+        text += "\nall-hold%s : failing %s ≡ []\nunfolding %s failing\nall-hold%s = refl\n" % (name[5:], name, name, name[5:])
+    return text
 
 
 # the module of a group of oracle.txt, and what it says
@@ -535,33 +523,38 @@ MODULES = {
 MOST_CELLS = {"Mixed": 130}  # the definition is for reading, and slow to run
 
 
+MOST_CONFLICTS = 60  # of one declaration
+
+
 def antt(folder):
     specs, src = os.path.join(folder, "specs"), os.path.join(folder, "src")
     os.makedirs(specs, exist_ok=True)
     os.makedirs(src, exist_ok=True)
     modules = {}
     for module, (start, title) in MODULES.items():
-        chosen = [theorem(name, comments, "out", cells, "", out)
+        chosen = [(conflicts(cells, out), case(name, comments, "runs", cells, out))
                   for group, comments, (name, cells, out) in read_file("oracle")
                   if group.startswith(start) and len(reading.cells(cells)) <= MOST_CELLS.get(module, 400)]
-        modules[module] = HEAD % (title, "oracle", "out"), chosen
-    chosen = [theorem(name, comments[-1:], "out", cells, "", out)
+        modules[module] = HEAD % (title, "oracle", "runs"), chosen
+    chosen = [(conflicts(cells, out), case(name, comments[-1:], "runs", cells, out))
               for _, comments, (name, cells, out) in read_file("storage")]
-    modules["Storage"] = HEAD % ("Answer 2, cause 2, and what is left behind them.", "storage", "out"), chosen
+    modules["Storage"] = HEAD % ("Answer 2, cause 2, and what is left behind them.", "storage", "runs"), chosen
     chosen = []
     for _, _, (name, lengths, cells, expected) in read_file("refusals"):
         if "{" not in cells:
-            chosen.append(theorem(name, [], "out-of", cells, lengths, expected))
+            refusal = expected.startswith("refused")
+            kind, wanted = ("refused", expected[len("refused "):]) if refusal else ("passes", expected)
+            chosen.append((conflicts(cells, not refusal), case(name, [], kind, lengths, cells, wanted)))
     title = "Scripts with the lengths of work, activities and out: number and place of the refusal, or the cells."
-    modules["Refusals"] = HEAD % (title, "refusals", "refuses, gives, out-of"), chosen
-    for module, (head, theorems) in modules.items():
+    modules["Refusals"] = HEAD % (title, "refusals", "refused, passes"), chosen
+    for module, (head, chosen) in modules.items():
         with open(os.path.join(specs, module + ".antt"), "w", encoding="utf-8") as file:
-            file.write("\n".join([head] + theorems))
+            file.write(head + theorems(chosen))
     with open(os.path.join(specs, "Lib.antt"), "w", encoding="utf-8") as file:
-        file.write("".join("pub mod %s\n" % module for module in modules))
+        file.write("".join("pub mod %s\n" % module for module in ["Cases", *modules]))
     with open(os.path.join(src, "lib.rt"), "w", encoding="utf-8") as file:
         file.write("// Scripts with their out cells, run by the definition.\n")
-    print("%d theorems" % sum(len(theorems) for _, theorems in modules.values()))
+    print("%d cases" % sum(len(chosen) for _, chosen in modules.values()))
 
 
 # ---- for the program crates/replay

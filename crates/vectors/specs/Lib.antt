@@ -1,3 +1,4 @@
+pub mod Cases
 pub mod Intake
 pub mod Search
 pub mod Minimise

@@ -3,15 +3,16 @@ use Prim.Native.Nat.{ℕ, _+_, _-_, _*_, _/_, _≤_, _<_}
 use native.Mathlib.Omega.{arith}
 use native.Mathlib.Numerals.{add-one}
 use mathlib.Core.Path.{_≡_, refl, sym, ap, ap₂, subst, subst₂, _∙_}
-use mathlib.Core.Logic.{_≢_}
+use mathlib.Core.Logic.{_≢_, _⊎_}
 use mathlib.Core.Bool.{true, false}
 use mathlib.Core.List.{List, []}
 use mathlib.Core.Option.{Option, none, some}
 use lib.ListN.{length, getD, set, drop, length-set, length-drop, drop-of-length-le}
-use lib.Seq.{drop-cons, set-getD, set-set, getD-set-same}
+use lib.Seq.{drop-cons, set-getD, set-set, getD-set-same, getD-set-other}
 use borrow.Author.Tests.{eq-eqb, ne-eqb}
-use Rattle.model.specs.Lit.{neg, value-lit, is-true, is-false}
+use Rattle.model.specs.Lit.{neg, is-true, is-false}
 use Rattle.model.specs.Propagate.{false-second, new-watch}
+use Rattle.lawbase.specs.Basics.{split, same?}
 use Rattle.trail.specs.View.{enqueued}
 use Rattle.store.specs.View.{Clauses, clause-of, lit-set, written}
 use Rattle.store.specs.Cells.{Lies, written-set}
@@ -28,7 +29,7 @@ use Rattle.state.specs.WatchLaws.{Gone}
 use Rattle.state.specs.Laws.{with-trail}
 use Rattle.state.specs.AssignmentLaws.{counts}
 use Rattle.propagate.specs.declared.Step.{Step}
-use Rattle.propagate.specs.View.{put-clause, place-of, Passed, at-cursor, exchanged, Settles, sets, Looks, passes, moves, settles}
+use Rattle.propagate.specs.View.{put-clause, place-of, Paired, Passed, at-cursor, exchanged, Settles, sets, Looks, passes, moves, settles}
 
 -- ---- literals of a clause set
 
@@ -62,17 +63,33 @@ module _ (x : Whole) {y : Whole} (c i a : ℕ) (h : i < length (clause-of (x .cl
 
 -- ---- the false literal second
 
-module _ (x : Whole) (c f : ℕ) where
-  pub second-kept : Lies (x .clauses) c → getD (clause-of (x .clauses) c) 0 0 ≢ f → x ≡ with-clauses x (put-clause (x .clauses) c (false-second f (clause-of (x .clauses) c)))
-  unfolding false-second
-  second-kept lies n =
-      rw (ne-eqb (getD (clause-of (x .clauses) c) 0 0) f n, false-second)
-      (ap₂ (λ (l : List (List ℕ)) (cells : List ℕ). with-clauses x (record { clauses = l; pushed = x .clauses .pushed; start-cells = x .clauses .start-cells; lit-cells = cells }))
-      (sym (set-getD (x .clauses .clauses) c [])) (sym lies))
+module _ (f : ℕ) (l : List ℕ) where
+  abbrev other : ℕ
+  other = getD l 0 0 + getD l 1 0 - f
 
-pub second-moved : (f : ℕ) (l : List ℕ) → getD l 0 0 ≡ f → false-second f l ≡ set (set l 0 (getD l 1 0)) 1 f
-unfolding false-second
-second-moved f l e = rw (eq-eqb (getD l 0 0) f e, false-second)
+  moved : getD l 0 0 ≡ f → false-second f l ≡ set (set l 0 other) 1 f
+  unfolding false-second
+  moved e =
+      let q : other ≡ getD l 1 0 = omega arith in
+      rw (eq-eqb (getD l 0 0) f e, false-second, q)
+
+  stays : getD l 0 0 ≢ f → getD l 1 0 ≡ f → false-second f l ≡ set (set l 0 other) 1 f
+  unfolding false-second
+  stays n e =
+      let q : other ≡ getD l 0 0 = omega arith in
+      rw (ne-eqb (getD l 0 0) f n, false-second, q, set-getD l 0 0, ← e) (sym (set-getD l 1 0))
+
+  -- the two literals' sum less the false one is the other: no test needs to say which is which
+  pub second-sum : (getD l 0 0 ≡ f) ⊎ (getD l 1 0 ≡ f) → false-second f l ≡ set (set l 0 (getD l 0 0 + getD l 1 0 - f)) 1 f
+  second-sum o = split (same? (getD l 0 0) f) moved (λ n. stays n (split o (λ e. absurd (n e)) (λ e. e)))
+
+  pub first-sum : 2 ≤ length l → (getD l 0 0 ≡ f) ⊎ (getD l 1 0 ≡ f) → getD l 0 0 + getD l 1 0 - f ≡ getD (false-second f l) 0 0
+  first-sum two o =
+      sym (ap (λ (m : List ℕ). getD m 0 0) (second-sum o) ∙ getD-set-other (set l 0 other) 1 0 f 0 (omega arith) ∙ getD-set-same l 0 other 0 (omega arith))
+
+  -- and neither it nor what it is taken from is out of range
+  pub sum-fits : (n : ℕ) → Paired n f l → (getD l 0 0 + getD l 1 0 < 4 * n) × (f ≤ getD l 0 0 + getD l 1 0)
+  sum-fits n k = (omega (arith, k .lits 0 (omega (arith, k .two)), k .lits 1 (omega (arith, k .two))), split (k .one) (λ e. omega arith) (λ e. omega arith))
 
 -- ---- the search for a new watch
 
@@ -176,20 +193,6 @@ module _ (values l : List ℕ) (two : 2 ≤ length l) (k n : ℕ) (ek : k ≡ pl
 
   pub not-found : n ≤ k → new-watch values 2 (drop 2 l) ≡ none
   not-found g = place-none values l two (omega arith)
-
--- the first literal q, with its value v
-module _ (values l : List ℕ) (q v : ℕ) (eq : q ≡ getD l 0 0) (ev : v ≡ value-lit values q) where
-  its-value : v ≡ value-lit values (getD l 0 0)
-  its-value = ev ∙ ap (value-lit values) eq
-
-  pub first-is-true : v ≡ 0 → is-true values (getD l 0 0) ≡ true
-  first-is-true e = eq-eqb (value-lit values (getD l 0 0)) 0 (sym its-value ∙ e)
-
-  pub first-not-true : (v ≡ 0 → ⊥) → is-true values (getD l 0 0) ≡ false
-  first-not-true n = ne-eqb (value-lit values (getD l 0 0)) 0 (λ e. n (its-value ∙ e))
-
-  pub first-not-false : (v ≡ 1 → ⊥) → is-false values (getD l 0 0) ≡ false
-  first-not-false n = ne-eqb (value-lit values (getD l 0 0)) 1 (λ e. n (its-value ∙ e))
 
 pub passes-as : {d : Sizes} {h : Header} {w : List ℕ} {p q : ℕ} {x : Whole} {c r : Cursor} → q ≡ getD (at-cursor x c) 0 0
     → is-true (x .assignment .vars .values) (getD (at-cursor x c) 0 0) ≡ true → Passed d h w p q x c r → Looks d h w p c x (record { head = h; cursor = r; clash = false })

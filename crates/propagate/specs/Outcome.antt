@@ -110,6 +110,12 @@ module _ (g : Config) (h : Header) (w : List ℕ) (p : ℕ) (c : Cursor) (k : Wa
           subst (λ (x : Whole). Lookable (g .sizes .vars) p (h .trail .assigned) (x .assignment .vars .values) (at-cursor x c)) (sym (k₁ .whole))
           (subst (Lookable (g .sizes .vars) p (h .trail .assigned) (whole (g .sizes) h w .assignment .vars .values)) (sym clause-there) (lookable g h w p c k n e))
 
+      -- its first literal
+      pub first-there : (f q : ℕ) → f ≡ neg p → q ≡ getD (false-second f (at-cursor (whole (g .sizes) h w) c)) 0 0 → q ≡ getD (at-cursor (whole (g .sizes) h w₁) c) 0 0
+      first-there f q ef eq =
+          eq ∙ ap (λ f. getD (false-second f (at-cursor (whole (g .sizes) h w) c)) 0 0) ef
+          ∙ sym (ap (λ (x : Whole). getD (at-cursor x c) 0 0) (k₁ .whole) ∙ ap (λ (l : List ℕ). getD l 0 0) clause-there)
+
     aside : (h′ : Header) (w′ : List ℕ) (x : Whole) → Holds (g .sizes) h′ w′ x → x .scratch ≡ whole (g .sizes) h w .scratch → x .final ≡ whole (g .sizes) h w .final
         → x .clauses .pushed ≡ whole (g .sizes) h w .clauses .pushed → Aside (g .sizes) h h′ w w′
     aside h′ w′ x q es ef ep =

@@ -1,7 +1,7 @@
 -- What the functions of propagation do to the whole state.
 use Prim.Native.Nat.{ℕ, suc, _+_, _*_, _/_, _≤_, _<_}
 use mathlib.Core.Path.{_≡_}
-use mathlib.Core.Logic.{_≢_}
+use mathlib.Core.Logic.{_≢_, _⊎_}
 use mathlib.Core.Bool.{Bool, true, false}
 use mathlib.Core.List.{List}
 use mathlib.Core.Option.{Option, none, some}
@@ -31,6 +31,12 @@ use Rattle.propagate.specs.declared.Propagated.{Propagated}
 abbrev pub put-clause : Clauses → ℕ → List ℕ → Clauses
 put-clause s c l =
     record { clauses = set (s .clauses) c l; pushed = s .pushed; start-cells = s .start-cells; lit-cells = written (s .lit-cells) (getD (s .start-cells) c 0) l }
+
+-- a clause l whose false literal f is one of its first two
+pub record Paired (n f : ℕ) (l : List ℕ) : Type 0 where
+  pub two : 2 ≤ length l
+  pub lits : LitsOf n l
+  pub one : (getD l 0 0 ≡ f) ⊎ (getD l 1 0 ≡ f)
 
 -- the place that a search found, or n
 abbrev pub place-of : ℕ → Option ℕ → ℕ

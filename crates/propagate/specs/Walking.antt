@@ -3,7 +3,7 @@ use Prim.Native.Nat.{ℕ, zero, suc, _-_, _*_, _/_, _≤_, _<_}
 use native.Mathlib.Omega.{arith}
 use native.Mathlib.Nat.{not-suc-le-zero}
 use mathlib.Core.Path.{_≡_, refl, sym, ap, subst, _∙_}
-use mathlib.Core.Logic.{_≢_}
+use mathlib.Core.Logic.{_≢_, inl, inr}
 use mathlib.Core.Bool.{true, false}
 use mathlib.Core.List.{List, [], _∷_, _++_, append-assoc, List·Memᴰ·head as here}
 use mathlib.Core.Option.{some}
@@ -13,6 +13,7 @@ use Rattle.model.specs.Lit.{var, neg, no-reason}
 use Rattle.model.specs.State.{Watch, State}
 use Rattle.model.specs.Store.{push-watch}
 use Rattle.model.specs.Propagate.{false-second, stays, goes, false-clause, look}
+use Rattle.lawbase.specs.Basics as basics
 use Rattle.lawbase.specs.Basics.{_∈_}
 use Rattle.lawbase.specs.WellFormed.{WellFormed}
 use Rattle.assign.specs.Lists.{getD-in}
@@ -34,7 +35,7 @@ use Rattle.state.specs.AssignmentLaws.{assigned-counted}
 use Rattle.state.specs.WatchSteps.{lists-hold, watch-left}
 use Rattle.state.specs.Still.{config-of, state-at, Still}
 use Rattle.propagate.specs.Visit.{list-at, to-visit, visit-stays, visit-goes, visit-clash}
-use Rattle.propagate.specs.View.{Walks, Went, Lookable, at-cursor}
+use Rattle.propagate.specs.View.{Walks, Went, Paired, Lookable, at-cursor}
 
 -- ---- a slice that holds another state, with nothing else changed
 
@@ -175,8 +176,15 @@ module _ (g : Config) (h : Header) (w : List ℕ) (p : ℕ) (c : Cursor) (k : Wa
       let l = the-look g h w p c k n e in
       omega (arith, l .proper .range (the-watch g h w p c k n e .blocker) (l .blocker))
 
-  pub clause-two : 2 ≤ length (at-cursor (whole (g .sizes) h w) c)
-  clause-two = the-look g h w p c k n e .proper .two
+  -- the false literal is one of the clause's first two
+  pub paired : (f : ℕ) → f ≡ neg p → Paired (g .sizes .vars) f (at-cursor (whole (g .sizes) h w) c)
+  paired f ef =
+      let l = the-look g h w p c k n e in
+      record {
+        two = l .proper .two;
+        lits = λ i hi. omega (arith, l .proper .range (getD (at-cursor (whole (g .sizes) h w) c) i 0) (getD-in (at-cursor (whole (g .sizes) h w) c) i 0 hi));
+        one = rw ef (basics.split (l .shape .moved) (λ m. inr (ap (λ (c : List ℕ). getD c 1 0) m)) (λ m. inl (ap (λ (c : List ℕ). getD c 0 0) m)));
+      }
 
   pub seconded-is : false-second (neg p) (at-cursor (whole (g .sizes) h w) c) ≡ looked-clause (the-look g h w p c k n e)
   seconded-is = the-look g h w p c k n e .shape .shape

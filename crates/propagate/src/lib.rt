@@ -1,9 +1,10 @@
 // Rule 2: propagation over the watch lists.
 ghost use mathlib.Core.Path.{_≡_};
+ghost use mathlib.Core.Bool.{false};
 ghost use mathlib.Core.List.{[]};
 ghost use Prim.Native.Nat.{_+_, _*_, _/_, _≤_, _<_};
 ghost use lib.ListN.{length, getD, drop};
-ghost use Rattle.model.specs.Lit.{var, neg, value-lit, is-true, is-false};
+ghost use Rattle.model.specs.Lit.{var, neg, is-true, is-false};
 ghost use Rattle.model.specs.Propagate.{false-second, new-watch, visit, propagate};
 ghost use Rattle.lawbase.specs.Basics.{_∈_};
 ghost use Rattle.trail.specs.View.{LitsOf};
@@ -15,7 +16,7 @@ ghost use Rattle.state.specs.WatchLaws.{Gone};
 ghost use Rattle.state.specs.Still.{Still, state-at};
 ghost use Rattle.watching.specs.Propagate.{turn};
 ghost use Rattle.propagate.specs.Visit.{list-at};
-ghost use Rattle.propagate.specs.View.{put-clause, place-of, Passed, at-cursor, exchanged, Movable, Lookable, Settles, Looks, Walks, Looked, Gives};
+ghost use Rattle.propagate.specs.View.{put-clause, place-of, Paired, Passed, at-cursor, exchanged, Movable, Lookable, Settles, Looks, Walks, Looked, Gives};
 use clause::Lit;
 use state::Config;
 use state::Header;
@@ -59,19 +60,20 @@ fn is_false(d: Sizes, h: Header, work: &[u32], p: Lit) -> bool
     x + p.sign() == 1
 }
 
-// Clause c gets its false literal f second, where that stood first.
-fn false_second(d: Sizes, h: Header, work: &mut [u32], c: usize, f: Lit)
+// Clause c gets its false literal f second; f is one of its first two. The other one comes first, and is given back: it is the sum of both less f, so that no test
+// says which of the two is f.
+fn false_second(d: Sizes, h: Header, work: &mut [u32], c: usize, f: Lit) -> Lit
     requires { ⌜ Rep d h (now work) ⌝ }
-    requires { ⌜ 2 ≤ length (clause-of (whole d h (now work) .clauses) c) ⌝ }
+    requires { ⌜ Paired (d .vars) (f .0) (clause-of (whole d h (now work) .clauses) c) ⌝ }
     ensures { λ _. ⌜ Holds d h (now (work .exit)) (with-clauses (whole d h (now (work .entry))) (put-clause (whole d h (now (work .entry)) .clauses) c (false-second (f .0) (clause-of (whole d h (now (work .entry)) .clauses) c)))) ⌝ }
+    ensures { λ r. ⌜ r .0 ≡ getD (false-second (f .0) (clause-of (whole d h (now (work .entry)) .clauses) c)) 0 0 ⌝ }
 {
     let a = clauses::lit_at(d, h, work, c, 0);
-    if a.0 != f.0 {
-        return;
-    }
     let b = clauses::lit_at(d, h, work, c, 1);
-    clauses::set_lit(d, h, work, c, 0, b);
+    let q = Lit(a.0 + b.0 - f.0);
+    clauses::set_lit(d, h, work, c, 0, q);
     clauses::set_lit(d, h, work, c, 1, f);
+    q
 }
 
 // The place, from 2 on, of the clause's first literal that is not false; the clause's length where there is none.
@@ -123,17 +125,17 @@ fn go(d: Sizes, h: Header, work: &mut [u32], p: Lit, c: Cursor, k: usize, b: Lit
     watches::leave(d, h, work, p, c, m, b)
 }
 
-// No other literal can be watched. The clause's first literal q, whose value is v, is false, which is a conflict, or it becomes true.
-fn settle(d: Sizes, h: Header, work: &mut [u32], p: Lit, c: Cursor, q: Lit, v: u32) -> Step
+// No other literal can be watched. The clause's first literal q is false, which is a conflict, or it becomes true.
+fn settle(d: Sizes, h: Header, work: &mut [u32], p: Lit, c: Cursor, q: Lit) -> Step
     requires { ⌜ Rep d h (now work) ⌝ }
     requires { ⌜ (p .0 < 2 * d .vars) × (q .0 < 2 * d .vars) ⌝ }
     requires { ⌜ Stands c (list-of (whole d h (now work) .watches) (p .0)) × (0 < c .left) ⌝ }
-    requires { ⌜ v ≡ value-lit (whole d h (now work) .assignment .vars .values) (q .0) ⌝ }
-    requires { ⌜ ((v ≡ 1 → ⊥) → h .trail .assigned < d .vars) ⌝ }
+    requires { ⌜ (is-false (whole d h (now work) .assignment .vars .values) (q .0) ≡ false → h .trail .assigned < d .vars) ⌝ }
     ensures { λ r. ⌜ Settles d h (now (work .exit)) (p .0) (q .0) c (whole d h (now (work .entry))) r ⌝ }
 {
+    let f = is_false(d, h, work, q);
     let r = pass(d, h, work, p, c, q);
-    if v == 1 {
+    if f {
         let t = h.trail;
         return Step {
             head: assignment::with_qhead(h, t.assigned),
@@ -149,18 +151,16 @@ fn settle(d: Sizes, h: Header, work: &mut [u32], p: Lit, c: Cursor, q: Lit, v: u
     }
 }
 
-// The watch at the cursor, whose blocker is not true; its clause has its false literal second.
-fn look_clause(d: Sizes, h: Header, work: &mut [u32], p: Lit, c: Cursor) -> Step
+// The watch at the cursor, whose blocker is not true; its clause has q first and its false literal second.
+fn look_clause(d: Sizes, h: Header, work: &mut [u32], p: Lit, c: Cursor, q: Lit) -> Step
     requires { ⌜ Rep d h (now work) ⌝ }
     requires { ⌜ p .0 < 2 * d .vars ⌝ }
     requires { ⌜ Stands c (list-of (whole d h (now work) .watches) (p .0)) × (0 < c .left) ⌝ }
     requires { ⌜ Lookable (d .vars) (p .0) (h .trail .assigned) (whole d h (now work) .assignment .vars .values) (at-cursor (whole d h (now work)) c) ⌝ }
+    requires { ⌜ q .0 ≡ getD (at-cursor (whole d h (now work)) c) 0 0 ⌝ }
     ensures { λ r. ⌜ Looks d h (now (work .exit)) (p .0) c (whole d h (now (work .entry))) r ⌝ }
 {
-    let x = c.cur / 2;
-    let q = clauses::lit_at(d, h, work, x, 0);
-    let v = assignment::value(d, h, work, q);
-    if v == 0 {
+    if is_true(d, h, work, q) {
         let r = pass(d, h, work, p, c, q);
         return Step {
             head: h,
@@ -168,6 +168,7 @@ fn look_clause(d: Sizes, h: Header, work: &mut [u32], p: Lit, c: Cursor) -> Step
             clash: false,
         };
     }
+    let x = c.cur / 2;
     let k = new_watch(d, h, work, x);
     let n = clauses::size(d, h, work, x);
     if k < n {
@@ -178,7 +179,7 @@ fn look_clause(d: Sizes, h: Header, work: &mut [u32], p: Lit, c: Cursor) -> Step
             clash: false,
         };
     }
-    settle(d, h, work, p, c, q, v)
+    settle(d, h, work, p, c, q)
 }
 
 // One watch of the list of p, a literal that has become true.
@@ -198,8 +199,8 @@ fn look(g: Config, h: Header, work: &mut [u32], p: Lit, c: Cursor) -> Step
             clash: false,
         };
     }
-    false_second(d, h, work, x / 2, p.negate());
-    look_clause(d, h, work, p, c)
+    let q = false_second(d, h, work, x / 2, p.negate());
+    look_clause(d, h, work, p, c, q)
 }
 
 // The watches of p in turn.

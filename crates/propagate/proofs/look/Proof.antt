@@ -6,8 +6,8 @@ use borrow.Author.Needs.{needs}
 use Rattle.model.specs.Lit.{is-true}
 use Rattle.state.specs.View.{whole}
 use Rattle.propagate.specs.Laws.{cursor-room}
-use Rattle.propagate.specs.Walking.{in-range, blocker-var, clause-two}
-use Rattle.propagate.specs.Outcome.{seconded-as, looked-blocked, stands-there, lookable-there, looked}
+use Rattle.propagate.specs.Walking.{in-range, blocker-var, paired}
+use Rattle.propagate.specs.Outcome.{seconded-as, looked-blocked, stands-there, lookable-there, first-there, looked}
 use Rattle.propagate.proofs.look.Statement.{statement}
 use Rattle.propagate.proofs.look.Tie as tie
 
@@ -57,7 +57,7 @@ false-second-requires c κs =
     let c9 = c .before .before .before .before .before .before .before .before .before in
     let a = c9 .args in
     let p = c9 .pre in
-    (p .0 .still .rep, clause-two (a .g) (a .h) (a .work .now) (a .p .0) (a .c) (p .0) (a .c .left - 1) (omega (arith, p .1)))
+    (p .0 .still .rep, paired (a .g) (a .h) (a .work .now) (a .p .0) (a .c) (p .0) (a .c .left - 1) (omega (arith, p .1)) (c .negate .result .0) (c .negate .ensures))
 
 look-clause-requires : tie.Need-look-clause-requires
 look-clause-requires c κs =
@@ -66,8 +66,20 @@ look-clause-requires c κs =
     let c13 = c4 .before .before .before .before .before .before .before .before .before in
     let a = c13 .args in
     let p = c13 .pre in
-    let u = seconded-as (a .g) (a .h) (a .work .now) (a .p .0) (a .c) (p .0) (c4 .negate .result .0) (c4 .negate .ensures) (c3 .false-second .ensures) in
-    (u .rep, (in-range (a .g) (a .h) (a .work .now) (a .p .0) (a .c) (p .0) (a .c .left - 1) (omega (arith, p .1)), ((stands-there (a .g) (a .h) (a .work .now) (a .p .0) (a .c) (p .0) _ u, p .1), lookable-there (a .g) (a .h) (a .work .now) (a .p .0) (a .c) (p .0) _ u (a .c .left - 1) (omega (arith, p .1)))))
+    let v = c3 .false-second .ensures in
+    let u = seconded-as (a .g) (a .h) (a .work .now) (a .p .0) (a .c) (p .0) (c4 .negate .result .0) (c4 .negate .ensures) (v .0) in (
+      u .rep,
+      (
+        in-range (a .g) (a .h) (a .work .now) (a .p .0) (a .c) (p .0) (a .c .left - 1) (omega (arith, p .1)),
+        (
+          (stands-there (a .g) (a .h) (a .work .now) (a .p .0) (a .c) (p .0) _ u, p .1),
+          (
+            lookable-there (a .g) (a .h) (a .work .now) (a .p .0) (a .c) (p .0) _ u (a .c .left - 1) (omega (arith, p .1)),
+            first-there (a .g) (a .h) (a .work .now) (a .p .0) (a .c) (p .0) _ u (a .c .left - 1) (omega (arith, p .1)) (c4 .negate .result .0) _ (c4 .negate .ensures) (v .1),
+          ),
+        ),
+      ),
+    )
 
 same-length-2 : tie.Need-same-length-2
 same-length-2 c = search needs
@@ -84,7 +96,7 @@ returns-2 c =
     let a = c16 .args in
     let p = c16 .pre in
     let x = whole (a .g .sizes) (a .h) (a .work .now) in
-    let u = seconded-as (a .g) (a .h) (a .work .now) (a .p .0) (a .c) (p .0) (c7 .negate .result .0) (c7 .negate .ensures) (c6 .false-second .ensures) in
+    let u = seconded-as (a .g) (a .h) (a .work .now) (a .p .0) (a .c) (p .0) (c7 .negate .result .0) (c7 .negate .ensures) (c6 .false-second .ensures .0) in
     looked (a .g) (a .h) (a .work .now) (a .p .0) (a .c) (p .0) _ u _ _
     (ap (is-true (x .assignment .vars .values)) (sym (c12 .blocker .ensures)) ∙ sym (c10 .is-true .ensures) ∙ c9 .if1 .left)
     (c2 .look-clause .ensures)

@@ -16,7 +16,7 @@ use Rattle.book.specs.Check.{checks, shows}
 
 -- all that the book computes with
 unfoldable read : ℕ
-unfolding Script.records Script.records-of Script.trailing Script.header Book.all Book.any Book.in-range-of Book.is-row Book.holds Book.is-model Book.is-common Book.has Book.same-literals Book.has-clause Book.same-clauses Book.fed Book.book-of Book.entry Book.answer-cells Book.taken-by Book.entries Book.cells-of Book.history Book.is-cause Check.rows Check.implies Check.follows? Check.no-model? Check.clause? Check.solve? Check.entry? Check.checks
+unfolding Script.records Script.records-of Script.lead Script.limits Script.trailing Script.record-as Script.header Book.all Book.any Book.in-range-of Book.is-row Book.holds Book.is-model Book.is-common Book.has Book.same-literals Book.has-clause Book.same-clauses Book.fed Book.book-of Book.entry Book.answer-cells Book.taken-by Book.entries Book.cells-of Book.history Book.is-cause Check.rows Check.implies Check.follows? Check.no-model? Check.clause? Check.solve? Check.entry? Check.checks
 read = 0
 
 -- ---- right answers

@@ -6,7 +6,7 @@ use Prim.Native.Nat.{ℕ, _+_, _*_, _≤_, _<_}
 use native.Mathlib.Omega.{arith}
 use lib.ListN.{length, length-append}
 use Rattle.model.specs.Lit.{undef-lit}
-use Rattle.model.specs.Script.{Config, Record, clause, solve, out-needed}
+use Rattle.model.specs.Script.{Config, Record, clause, solve, kind-of, cost, out-needed}
 use Rattle.model.specs.State.{State, Solver, initial-state, initial}
 use Rattle.model.specs.Intake.{add-clause}
 use Rattle.model.specs.Run.{step, answers, run}
@@ -39,7 +39,7 @@ module _ {cfg : Config} (l : Limited cfg) where
   -- its cells are never more than it asks of out
   pub step-short : (r : Record) (x : Solver) (rs : List Record) → Ranged (cfg .variables) r → Idle cfg (x .state)
       → length (step cfg r x .answer) + out-needed (cfg .variables) rs ≤ out-needed (cfg .variables) (r ∷ rs)
-  unfolding step out-needed
+  unfolding step out-needed cost kind-of
   step-short (clause c) x rs f h = omega arith
   step-short (solve ps budget) x rs f h = omega (arith, solve-short l x ps f budget h)
 

@@ -27,29 +27,55 @@ pub data Record : Type 0 where
   clause : List ℕ → Record
   solve : List ℕ → ℕ → Record
 
--- a record's first cell
+-- ---- record kinds: a record is its kind, the `lead` cells, a count, that many literals, and the `trailing` cells
+
 abbrev pub clause-kind : ℕ
 clause-kind = 1
 
 abbrev pub solve-kind : ℕ
 solve-kind = 2
 
--- the cells of a record behind its literals: a solve's budget
+unfoldable pub known : ℕ → Bool
+known kind = eqb kind clause-kind || eqb kind solve-kind
+
+-- the cells between kind and count
+unfoldable pub lead : ℕ → ℕ
+lead kind = 0
+
+-- the largest count, of v variables
+unfoldable pub most-count : ℕ → ℕ → ℕ
+most-count kind v = 2 * v
+
+-- the largest number that each cell behind the literals may hold: a solve has a budget there
+unfoldable pub limits : ℕ → List ℕ
+limits kind = elim (eqb kind solve-kind) [ true ↦ Limits.max-budget ∷ [] | false ↦ [] ]
+
 unfoldable pub trailing : ℕ → ℕ
-trailing kind = elim (eqb kind solve-kind) [ true ↦ 1 | false ↦ 0 ]
+trailing kind = length (limits kind)
+
+-- the out cells that its answer may need, of v variables
+unfoldable pub cost : ℕ → ℕ → ℕ
+cost kind v = elim (eqb kind solve-kind) [ true ↦ v + Limits.solve-besides | false ↦ 1 ]
+
+-- the record of a kind, by its cells before the count, its literals, and its cells behind them
+unfoldable pub record-as : ℕ → List ℕ → List ℕ → List ℕ → Record
+record-as kind before literals behind = elim (eqb kind solve-kind) [ true ↦ solve literals (getD behind 0 0) | false ↦ clause literals ]
+
+unfoldable pub kind-of : Record → ℕ
+kind-of (clause literals) = clause-kind
+kind-of (solve assumptions budget) = solve-kind
+
+-- ---- the records of a script
 
 -- The records of the cells behind the header. Each takes two cells or more, so as many turns as there are cells are enough.
 unfoldable pub records : ℕ → List ℕ → List Record
 records zero cells = []
 records (suc turns) [] = []
 records (suc turns) (kind ∷ rest) =
-    let count = getD rest 0 0 in
-    let body = drop 1 rest in
-    let next = drop (count + trailing kind) body in
-    elim (eqb kind solve-kind) [
-      | true ↦ solve (take count body) (getD body count 0) ∷ records turns next
-      | false ↦ clause (take count body) ∷ records turns next
-    ]
+    let count = getD rest (lead kind) 0 in
+    let body = drop (lead kind + 1) rest in
+    let behind = take (trailing kind) (drop count body) in
+    record-as kind (take (lead kind) rest) (take count body) behind ∷ records turns (drop (count + trailing kind) body)
 
 unfoldable pub records-of : List ℕ → List Record
 records-of s = records (length s) (drop header-cells s)
@@ -82,29 +108,31 @@ unfoldable pub literal-rows : ℕ → ℕ → List ℕ → List Row
 literal-rows v at [] = []
 literal-rows v at (l ∷ ls) = row 9 (ltb l (2 * v)) at ∷ literal-rows v (at + 1) ls
 
-unfoldable pub budget-rows : ℕ → ℕ → ℕ → List Row
-budget-rows kind at budget = elim (eqb kind solve-kind) [ true ↦ row 11 (leb budget Limits.max-budget) at ∷ [] | false ↦ [] ]
+-- the cells from the cell `at` on, each with its limit
+unfoldable pub limit-rows : ℕ → List ℕ → List ℕ → List Row
+limit-rows at [] cells = []
+limit-rows at (most ∷ limits) cells = row 11 (leb (getD cells 0 0) most) at ∷ limit-rows (at + 1) limits (drop 1 cells)
 
 -- the records from the cell `at` on, of a script of n cells
 unfoldable pub record-rows : ℕ → ℕ → ℕ → ℕ → List ℕ → List Row
 record-rows v n zero at cells = []
 record-rows v n (suc turns) at [] = []
 record-rows v n (suc turns) at (kind ∷ rest) =
-    let count = getD rest 0 0 in
-    let body = drop 1 rest in
+    let count = getD rest (lead kind) 0 in
+    let body = drop (lead kind + 1) rest in
+    let first = at + 2 + lead kind in
     let size = count + trailing kind in
-    row 7 (eqb kind clause-kind || eqb kind solve-kind) at
-    ∷ row 8 (leb 1 (length rest)) n
-    ∷ row 10 (leb count (2 * v)) (at + 1)
+    row 7 (known kind) at
+    ∷ row 8 (leb (lead kind + 1) (length rest)) n
+    ∷ row 10 (leb count (most-count kind v)) (at + 1 + lead kind)
     ∷ row 8 (leb size (length body)) n
-    ∷ (literal-rows v (at + 2) (take count body) ++ budget-rows kind (at + 2 + count) (getD body count 0)
-    ++ record-rows v n turns (at + 2 + size) (drop size body))
+    ∷ (literal-rows v first (take count body) ++ limit-rows (first + count) (limits kind) (drop count body)
+    ++ record-rows v n turns (first + size) (drop size body))
 
 -- the out cells that the records may need
 unfoldable pub out-needed : ℕ → List Record → ℕ
 out-needed v [] = 0
-out-needed v (clause c ∷ rs) = 1 + out-needed v rs
-out-needed v (solve assumptions budget ∷ rs) = v + Limits.solve-besides + out-needed v rs
+out-needed v (r ∷ rs) = cost (kind-of r) v + out-needed v rs
 
 unfoldable pub out-rows : ℕ → ℕ → List Row
 out-rows needed out = row 12 (leb needed out) (min needed Limits.max-place) ∷ []

@@ -1,20 +1,20 @@
 -- What an accepted script is: every row of the table, in numbers.
 use Prim.Native.Nat.{ℕ, _+_, _*_, _≤_, _<_}
 use mathlib.Core.Path.{_≡_, refl, sym, ap, _∙_, subst}
-use mathlib.Core.Bool.{Bool, true, false}
+use mathlib.Core.Bool.{true}
 use mathlib.Core.List.{List, _++_}
 use native.Mathlib.Omega.{arith}
-use lib.ListN.{length, drop, length-take}
-use lib.Dec.{eqb}
-use borrow.Author.Tests.{leb-true, le-leb, eqb-true}
+use lib.ListN.{length, getD, drop, length-take}
+use borrow.Author.Tests.{leb-true, le-leb}
 use Rattle.model.specs.Limits as Limits
 use Rattle.model.specs.Limits.{header-cells}
-use Rattle.model.specs.Script.{Config, Record, clause, solve, solve-kind, refused, accepted, header, header-rows, slice-rows, out-rows, records-of, out-needed, work-needed, read}
+use Rattle.model.specs.Script.{Config, Record, clause, solve, known, limits, record-as, refused, accepted, header, header-rows, slice-rows, out-rows, records-of, out-needed, work-needed, read}
 use Rattle.lawbase.specs.Basics.{Every, every-nil, every-cons}
 use Rattle.script.specs.declared.Judgement.{Judgement}
 use Rattle.script.specs.declared.Judgement.the-variants as J
 use Rattle.script.specs.Judging.{reading-of, Hold, hold-append, hold-left, hold-right, hold-judge, judge-hold}
-use Rattle.script.specs.Walk.{kind-at, count-at, literals-at, budget-at, record-at, records-from, records-step, records-end, rows-from, walk-induction}
+use Rattle.script.specs.Walk.{kind-at, count-at, first-at, lead-at, literals-at, behind-at, record-at, records-from, records-step, records-end, rows-from, walk-induction}
+use Rattle.script.specs.Kinds.{kind-cases, most-count-le}
 use Rattle.script.specs.Sound.{RecordIn, Readable, readable-here, readable-next}
 use Rattle.script.specs.Needs.{front-rows, back-rows}
 use Rattle.script.specs.Front.{from-one, HeaderIn, header-in, read-parts}
@@ -39,17 +39,18 @@ pub record Accepted (s : List ℕ) (work activities out : ℕ) : Type 0 where
   pub records-fit : Every (RecordFits (header s .variables)) (records-of s)
   pub out-fits : out-needed (header s .variables) (records-of s) ≤ out
 
-record-fits : (v : ℕ) (s : List ℕ) (at : ℕ) → RecordIn v s at → RecordFits v (record-at s at)
-unfolding record-at
-record-fits v s at r = by-kind (eqb (kind-at s at) solve-kind) refl
-  where
-    fit : LiteralsFit v (literals-at s at)
-    fit = record { count = rw (length-take (count-at s at) (drop (at + 2) s)) (omega (arith, r .count)); literals = r .literals }
+as-fits : (v kind : ℕ) (before ls behind : List ℕ) → known kind ≡ true → LiteralsFit v ls → ((i : ℕ) → getD behind i 0 ≤ getD (limits kind) i 0)
+    → RecordFits v (record-as kind before ls behind)
+unfolding record-as limits
+as-fits v kind before ls behind k f =
+    kind-cases (λ x. ((i : ℕ) → getD behind i 0 ≤ getD (limits x) i 0) → RecordFits v (record-as x before ls behind)) (λ h. f) (λ h. (f, h 0)) kind k
 
-    by-kind : (b : Bool) → eqb (kind-at s at) solve-kind ≡ b
-        → RecordFits v (elim b as (λ _. Record) [ true ↦ solve (literals-at s at) (budget-at s at) | false ↦ clause (literals-at s at) ])
-    by-kind true e = (fit, r .budget (eqb-true (kind-at s at) solve-kind e))
-    by-kind false e = fit
+record-fits : (v : ℕ) (s : List ℕ) (at : ℕ) → RecordIn v s at → RecordFits v (record-at s at)
+record-fits v s at r =
+    let few = length-take (count-at s at) (drop (first-at s at) s) in
+    let fit : LiteralsFit v (literals-at s at) =
+    record { count = omega (arith, few, r .count, most-count-le (kind-at s at) v); literals = r .literals } in
+    as-fits v (kind-at s at) (lead-at s at) (literals-at s at) (behind-at s at) (r .kind) fit (r .behind)
 
 pub readable-fits : (v : ℕ) (s : List ℕ) (at : ℕ) → Readable v s at → Every (RecordFits v) (records-from s at)
 readable-fits v s =

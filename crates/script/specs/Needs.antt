@@ -5,17 +5,18 @@ use mathlib.Core.Bool.{Bool, true, false, _&&_}
 use mathlib.Core.List.{List, [], _∷_, _++_}
 use native.Mathlib.Omega.{arith}
 use lib.ListN.{length, drop}
-use lib.Dec.{leb, eqb}
-use borrow.Author.Tests.{le-leb, lt-leb, leb-true, leb-false, eq-eqb, ne-eqb}
+use lib.Dec.{leb}
+use borrow.Author.Tests.{le-leb, lt-leb, leb-true, leb-false}
 use Rattle.model.specs.Limits as Limits
 use Rattle.model.specs.Limits.{header-cells}
-use Rattle.model.specs.Script.{Config, Record, clause, solve, solve-kind, Row, row, Reading, refused, accepted, header, header-rows, slice-rows, out-rows, record-rows, out-needed, work-needed, records-of, judge}
+use Rattle.model.specs.Script.{Config, known, cost, Row, row, Reading, refused, accepted, header, header-rows, slice-rows, out-rows, record-rows, out-needed, work-needed, records-of, judge}
 use Rattle.script.specs.declared.Judgement.{Judgement}
 use Rattle.script.specs.declared.Judgement.the-variants.{Refused, Accepted}
 use Rattle.script.specs.Judging.{gives, Judged, judge-append}
 use Rattle.script.specs.declared.Need.{Need}
 use Rattle.script.specs.declared.Need.the-variants.{Cells, More}
-use Rattle.script.specs.Walk.{kind-at, literals-at, budget-at, next-at, record-at, records-from, records-step, records-end, rows-from}
+use Rattle.script.specs.Walk.{kind-at, lead-at, literals-at, behind-at, next-at, records-from, records-step, records-end, rows-from}
+use Rattle.script.specs.Kinds.{kind-as}
 
 -- ---- rows
 
@@ -52,10 +53,6 @@ pub work-is : (v c l : ℕ) → work-needed (sized v c l) ≡ Limits.work-per-va
 unfolding work-needed
 work-is v c l = refl
 
--- the out cells that the record at a cell may need
-unfoldable pub cost-at : ℕ → List ℕ → ℕ → ℕ
-cost-at v s at = elim (eqb (kind-at s at) solve-kind) [ true ↦ v + Limits.solve-besides | false ↦ 1 ]
-
 -- the largest u64
 abbrev pub max-cells : ℕ
 max-cells = 18446744073709551615
@@ -76,27 +73,13 @@ out-len-of s =
 unfoldable pub within : ℕ → ℕ → Need
 within need bound = elim (leb need bound) [ true ↦ Cells need | false ↦ More ]
 
-pub cost-solve : (v : ℕ) (s : List ℕ) (at : ℕ) → kind-at s at ≡ solve-kind → cost-at v s at ≡ v + Limits.solve-besides
-unfolding cost-at
-cost-solve v s at e = rw (eq-eqb (kind-at s at) solve-kind e, cost-at)
-
-pub cost-clause : (v : ℕ) (s : List ℕ) (at : ℕ) → (kind-at s at ≡ solve-kind → ⊥) → cost-at v s at ≡ 1
-unfolding cost-at
-cost-clause v s at e = rw (ne-eqb (kind-at s at) solve-kind e, cost-at)
-
 -- ---- the walk that adds up the out cells
 
-needed-cons : (v : ℕ) (b : Bool) (ls : List ℕ) (budget : ℕ) (rs : List Record)
-    → out-needed v ((elim b as (λ _. Record) [ true ↦ solve ls budget | false ↦ clause ls ]) ∷ rs)
-    ≡ (elim b as (λ _. ℕ) [ true ↦ v + Limits.solve-besides | false ↦ 1 ]) + out-needed v rs
+pub needed-step : (v : ℕ) (s : List ℕ) (at : ℕ) → at < length s → known (kind-at s at) ≡ true
+    → out-needed v (records-from s at) ≡ cost (kind-at s at) v + out-needed v (records-from s (next-at s at))
 unfolding out-needed
-needed-cons v true ls budget rs = refl
-needed-cons v false ls budget rs = refl
-
-pub needed-step : (v : ℕ) (s : List ℕ) (at : ℕ) → at < length s → out-needed v (records-from s at) ≡ cost-at v s at + out-needed v (records-from s (next-at s at))
-unfolding record-at cost-at
-needed-step v s at h =
-    rw (records-step s at h) (needed-cons v (eqb (kind-at s at) solve-kind) (literals-at s at) (budget-at s at) (records-from s (next-at s at)))
+needed-step v s at h k =
+    rw (records-step s at h) (ap (λ (kind : ℕ). cost kind v + out-needed v (records-from s (next-at s at))) (kind-as (kind-at s at) (lead-at s at) (literals-at s at) (behind-at s at) k))
 
 pub needed-end : (v : ℕ) (s : List ℕ) (at : ℕ) → length s ≤ at → out-needed v (records-from s at) ≡ 0
 unfolding out-needed

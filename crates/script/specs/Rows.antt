@@ -1,47 +1,52 @@
 -- The judgement of each part of the rows, by the facts that the code tests.
 use Prim.Native.Nat.{ℕ, _+_, _*_, _-_, _≤_, _<_}
-use mathlib.Core.Path.{_≡_, sym, ap, _∙_, subst}
-use mathlib.Core.Bool.{Bool, true, false, _||_}
+use mathlib.Core.Path.{_≡_, refl, sym, ap, _∙_, subst}
+use mathlib.Core.Bool.{true, false}
 use mathlib.Core.List.{List}
 use native.Mathlib.Omega.{arith}
 use lib.ListN.{length, getD}
-use lib.Dec.{ltb, eqb}
-use borrow.Author.Tests.{leb-true, le-leb, lt-leb, lt-ltb, le-ltb, eq-eqb, ne-eqb}
-use Rattle.model.specs.Limits as Limits
-use Rattle.model.specs.Script.{clause-kind, solve-kind, literal-rows, budget-rows}
+use lib.Dec.{leb, ltb}
+use borrow.Author.Tests.{leb-true, le-leb, lt-leb, lt-ltb, le-ltb}
+use Rattle.model.specs.Script.{known, lead, most-count, limits, literal-rows}
 use Rattle.script.specs.declared.Judgement.{Judgement}
 use Rattle.script.specs.declared.Judgement.the-variants.{Refused, Accepted}
 use Rattle.script.specs.Judging.{Judged, Same, Hold, judge-append, row-holds, done, pass, stop, stop-at, refused-first}
-use Rattle.script.specs.Walk.{kind-at, count-at, size-at, literals-at, next-at, part, kind-rows, count-rows, literals-rows, literal-step, literal-end, literals-part, rows-at, rows-from, rows-step, rows-end}
+use Rattle.script.specs.Walk.{kind-at, count-at, size-at, first-at, end-at, literals-at, next-at, part, kind-rows, count-rows, literals-rows, last-rows, literal-step, literal-end, literals-part, limits-from, limit-start, limit-step, limit-end, rows-at, rows-from, rows-step, rows-end}
 
 -- ---- a record's kind and count
 
-abbrev pub known : ℕ → Bool
-known kind = eqb kind clause-kind || eqb kind solve-kind
-
 module _ (s : List ℕ) (at : ℕ) where
-  pub kind-unknown : known (kind-at s at) ≡ false → Judged (Refused 7 at) (kind-rows s at)
+  abbrev kind : ℕ
+  kind = kind-at s at
+
+  abbrev left : ℕ
+  left = length s - (at + 1)
+
+  pub kind-unknown : known kind ≡ false → Judged (Refused 7 at) (kind-rows s at)
   kind-unknown k = stop k
 
-  pub kind-last : known (kind-at s at) ≡ true → length s < at + 2 → Judged (Refused 8 (length s)) (kind-rows s at)
-  kind-last k h = pass k (stop (lt-leb 1 (length s - (at + 1)) (omega arith)))
+  pub kind-last : known kind ≡ true → length s < first-at s at → Judged (Refused 8 (length s)) (kind-rows s at)
+  kind-last k h = pass k (stop (lt-leb (lead kind + 1) left (omega arith)))
 
-  pub kind-ok : known (kind-at s at) ≡ true → at + 2 ≤ length s → Judged Accepted (kind-rows s at)
-  kind-ok k h = pass k (pass (le-leb 1 (length s - (at + 1)) (omega arith)) done)
+  pub kind-ok : known kind ≡ true → first-at s at ≤ length s → Judged Accepted (kind-rows s at)
+  kind-ok k h = pass k (pass (le-leb (lead kind + 1) left (omega arith)) done)
 
   -- so there is a count
-  pub kind-head : Hold (kind-rows s at) → at + 2 ≤ length s
-  kind-head r = omega (arith, leb-true 1 (length s - (at + 1)) (r .1 .0))
+  pub kind-head : Hold (kind-rows s at) → first-at s at ≤ length s
+  kind-head r = omega (arith, leb-true (lead kind + 1) left (r .1 .0))
 
-module _ (v : ℕ) (s : List ℕ) (at : ℕ) where
-  pub count-stop : 2 * v < count-at s at → Judged (Refused 10 (at + 1)) (count-rows v s at)
-  count-stop g = stop (lt-leb (count-at s at) (2 * v) g)
+  module _ (v : ℕ) where
+    abbrev most : ℕ
+    most = most-count kind v
 
-  pub count-past : count-at s at ≤ 2 * v → length s < next-at s at → at + 2 ≤ length s → Judged (Refused 8 (length s)) (count-rows v s at)
-  count-past g l h = pass (le-leb (count-at s at) (2 * v) g) (stop (lt-leb (size-at s at) (length s - (at + 2)) (omega arith)))
+    pub count-stop : most < count-at s at → (place : ℕ) → place ≡ at + 1 + lead kind → Judged (Refused 10 place) (count-rows v s at)
+    count-stop g place p = stop-at p (lt-leb (count-at s at) most g)
 
-  pub count-ok : count-at s at ≤ 2 * v → next-at s at ≤ length s → Judged Accepted (count-rows v s at)
-  count-ok g l = pass (le-leb (count-at s at) (2 * v) g) (pass (le-leb (size-at s at) (length s - (at + 2)) (omega arith)) done)
+    pub count-past : count-at s at ≤ most → length s < next-at s at → first-at s at ≤ length s → Judged (Refused 8 (length s)) (count-rows v s at)
+    count-past g l h = pass (le-leb (count-at s at) most g) (stop (lt-leb (size-at s at) (length s - first-at s at) (omega arith)))
+
+    pub count-ok : count-at s at ≤ most → next-at s at ≤ length s → Judged Accepted (count-rows v s at)
+    count-ok g l = pass (le-leb (count-at s at) most g) (pass (le-leb (size-at s at) (length s - first-at s at) (omega arith)) done)
 
 -- ---- its literals, from the cell a up to e
 
@@ -55,26 +60,28 @@ module _ (v : ℕ) (s : List ℕ) (a e : ℕ) where
   pub literal-none : e ≤ a → Judged Accepted (literal-rows v a (part s a e))
   literal-none h = rw (literal-end v s a e h) done
 
--- the literals as the code has them, up to the cell e behind them
-pub literals-judged : (v : ℕ) (s : List ℕ) (at e : ℕ) {j : Judgement} → e ≡ at + 2 + count-at s at → Judged j (literal-rows v (at + 2) (part s (at + 2) e)) → Judged j (literals-rows v s at)
-literals-judged v s at e {j} p h =
-    let q : part s (at + 2) e ≡ literals-at s at = ap (part s (at + 2)) p ∙ literals-part s at in
-    subst (λ (ls : List ℕ). Judged j (literal-rows v (at + 2) ls)) q h
+-- the literals as the code has them, from their first cell up to the one behind them
+pub literals-judged : (v : ℕ) (s : List ℕ) (at f e : ℕ) {j : Judgement} → f ≡ first-at s at → e ≡ end-at s at → Judged j (literal-rows v f (part s f e)) → Judged j (literals-rows v s at)
+literals-judged v s at f e {j} q p h =
+    subst (λ (ls : List ℕ). Judged j (literal-rows v (first-at s at) ls)) (literals-part s at)
+    (subst (λ (x : ℕ). Judged j (literal-rows v (first-at s at) (part s (first-at s at) x))) p (subst (λ (x : ℕ). Judged j (literal-rows v x (part s x e))) q h))
 
--- ---- its budget
+-- ---- the cells behind them, from the i-th on
 
-module _ (kind at budget : ℕ) where
-  pub budget-none : (kind ≡ solve-kind → ⊥) → Judged Accepted (budget-rows kind at budget)
-  unfolding budget-rows
-  budget-none h = rw (ne-eqb kind solve-kind h, budget-rows) done
+module _ (most s : List ℕ) (e : ℕ) where
+  module _ (i : ℕ) where
+    pub limit-stop : i < length most → getD most i 0 < getD s (e + i) 0 → Judged (Refused 11 (e + i)) (limits-from most s e i)
+    limit-stop h g = rw (limit-step most s e i h) (stop (lt-leb (getD s (e + i) 0) (getD most i 0) g))
 
-  pub budget-stop : kind ≡ solve-kind → (place : ℕ) → place ≡ at → Limits.max-budget < budget → Judged (Refused 11 place) (budget-rows kind at budget)
-  unfolding budget-rows
-  budget-stop h place p g = rw (eq-eqb kind solve-kind h, budget-rows) (stop-at p (lt-leb budget Limits.max-budget g))
+    pub limit-more : i < length most → getD s (e + i) 0 ≤ getD most i 0 → Same (limits-from most s e i) (limits-from most s e (i + 1))
+    limit-more h g k = rw (limit-step most s e i h) (row-holds 11 (leb (getD s (e + i) 0) (getD most i 0)) (e + i) _ (le-leb (getD s (e + i) 0) (getD most i 0) g) k)
 
-  pub budget-ok : kind ≡ solve-kind → budget ≤ Limits.max-budget → Judged Accepted (budget-rows kind at budget)
-  unfolding budget-rows
-  budget-ok h g = rw (eq-eqb kind solve-kind h, budget-rows) (pass (le-leb budget Limits.max-budget g) done)
+    pub limit-none : length most ≤ i → Judged Accepted (limits-from most s e i)
+    limit-none h = rw (limit-end most s e i h) done
+
+-- as the code has them
+pub limits-start : (s : List ℕ) (at kind e : ℕ) → kind ≡ kind-at s at → e ≡ end-at s at → Same (last-rows s at) (limits-from (limits kind) s e 0)
+limits-start s at kind e p q k = rw (p, q, limit-start (limits (kind-at s at)) s (end-at s at))
 
 -- ---- the walk over the records
 

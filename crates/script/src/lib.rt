@@ -1,16 +1,49 @@
 // The reading of a script: what is turned back, and the records of what is accepted.
 ghost use mathlib.Core.Path.{_≡_};
-ghost use mathlib.Core.Bool.{_||_};
 ghost use Prim.Native.Nat.{_+_, _≤_, _<_, min};
-ghost use lib.Dec.{eqb};
-ghost use lib.ListN.{length};
+ghost use lib.ListN.{length, getD};
 ghost use Rattle.model.specs.Limits.{header-cells, max-variables};
-ghost use Rattle.model.specs.Script.{header, header-rows, slice-rows, literal-rows, budget-rows, trailing, out-rows, out-needed, work-needed, read};
+ghost use Rattle.model.specs.Script.{known, lead, most-count, limits, trailing, cost, header, header-rows, slice-rows, literal-rows, out-rows, out-needed, work-needed, read};
 ghost use Rattle.script.specs.Judging.{Judged, reading-of};
-ghost use Rattle.script.specs.Walk.{kind-at, count-at, literals-at, budget-at, next-at, part, RecordAt, kind-rows, count-rows, head-rows, body-rows, rows-at, rows-from, records-from};
+ghost use Rattle.script.specs.Walk.{kind-at, count-at, first-at, end-at, literals-at, behind-at, next-at, part, RecordAt, kind-rows, count-rows, head-rows, last-rows, body-rows, rows-at, rows-from, records-from};
 ghost use Rattle.script.specs.Sound.{Readable};
 ghost use Rattle.script.specs.Front.{from-one};
-ghost use Rattle.script.specs.Needs.{size-rows, option-rows, front-rows, back-rows, sized, cost-at, within, out-len-from, out-len-of};
+ghost use Rattle.script.specs.Needs.{size-rows, option-rows, front-rows, back-rows, sized, within, out-len-from, out-len-of};
+
+// The kinds of records.
+pub const CLAUSE: u32 = 1;
+
+pub const SOLVE: u32 = 2;
+
+// The limits of document 01.
+pub const HEADER_CELLS: usize = 6;
+
+const MAX_VARIABLES: u32 = 4096;
+
+const MAX_CLAUSES: u32 = 65535;
+
+const MAX_LITERALS: u32 = 1048576;
+
+const MAX_MODE: u32 = 2;
+
+const MAX_PHASE: u32 = 2;
+
+const MAX_UNIT: u32 = 1000;
+
+const MAX_BUDGET: u32 = 1000000;
+
+const WORK_PER_VARIABLE: u64 = 32;
+
+const WORK_PER_CLAUSE: u64 = 8;
+
+const WORK_BESIDES: u64 = 64;
+
+const SOLVE_BESIDES: u64 = 4;
+
+const MAX_PLACE: u64 = 4294967295;
+
+// The largest u64.
+const MAX_CELLS: u64 = 18446744073709551615;
 
 // The answer to a script, and to a part of its rows: the first row that does not hold, or none.
 pub enum Judgement {
@@ -30,30 +63,91 @@ fn wide(x: u32) -> usize
     x as usize
 }
 
+// ---- kinds
+
+fn known(kind: u32) -> bool
+    ensures { λ r. ⌜ r ≡ known kind ⌝ }
+{
+    if kind == CLAUSE {
+        return true;
+    }
+    kind == SOLVE
+}
+
+// The cells between kind and count: no kind has any.
+fn lead(kind: u32) -> usize
+    ensures { λ r. ⌜ r ≡ lead kind ⌝ }
+{
+    0
+}
+
+// The largest count.
+fn most_count(kind: u32, v: usize) -> usize
+    requires { ⌜ v ≤ max-variables ⌝ }
+    ensures { λ r. ⌜ r ≡ most-count kind v ⌝ }
+{
+    2 * v
+}
+
+// The cells behind the literals.
+fn trailing(kind: u32) -> usize
+    ensures { λ r. ⌜ r ≡ trailing kind ⌝ }
+{
+    if kind == SOLVE { 1 } else { 0 }
+}
+
+// The largest number that the i-th of them may hold.
+fn limit(kind: u32, i: usize) -> u32
+    requires { ⌜ i < trailing kind ⌝ }
+    ensures { λ r. ⌜ r ≡ getD (limits kind) i 0 ⌝ }
+{
+    MAX_BUDGET
+}
+
+// The out cells that an answer may need.
+fn cost(kind: u32, v: usize) -> u64
+    requires { ⌜ v ≤ max-variables ⌝ }
+    ensures { λ r. ⌜ r ≡ cost kind v ⌝ }
+{
+    if kind == SOLVE {
+        return v as u64 + SOLVE_BESIDES;
+    }
+    1
+}
+
 // ---- records
 
-// The kind of the record that begins at this cell: 1 a clause, 2 a solve.
+// The kind of the record that begins at this cell.
 pub fn kind(script: &[u32], at: usize) -> u32
-    requires { ⌜ RecordAt (now script) at ⌝ }
+    requires { ⌜ at < length (now script) ⌝ }
     ensures { λ r. ⌜ r ≡ kind-at (now (script .entry)) at ⌝ }
 {
     script[at]
 }
 
+// Where its literals begin.
+fn first(script: &[u32], at: usize) -> usize
+    requires { ⌜ first-at (now script) at ≤ length (now script) ⌝ }
+    ensures { λ r. ⌜ r ≡ first-at (now (script .entry)) at ⌝ }
+{
+    at + 2 + lead(kind(script, at))
+}
+
 // How many literals it has.
 pub fn count(script: &[u32], at: usize) -> usize
-    requires { ⌜ RecordAt (now script) at ⌝ }
+    requires { ⌜ first-at (now script) at ≤ length (now script) ⌝ }
     ensures { λ r. ⌜ r ≡ count-at (now (script .entry)) at ⌝ }
 {
-    wide(script[at + 1])
+    let first = first(script, at);
+    wide(script[first - 1])
 }
 
 // The cell behind its literals.
 fn literals_end(script: &[u32], at: usize) -> usize
     requires { ⌜ RecordAt (now script) at ⌝ }
-    ensures { λ r. ⌜ r ≡ at + 2 + count-at (now (script .entry)) at ⌝ }
+    ensures { λ r. ⌜ r ≡ end-at (now (script .entry)) at ⌝ }
 {
-    at + 2 + count(script, at)
+    first(script, at) + count(script, at)
 }
 
 // Its literals, as that part of the script.
@@ -62,25 +156,20 @@ pub fn literals(script: &[u32], at: usize) -> &[u32]
     ensures { λ r. ⌜ now r ≡ literals-at (now (script .entry)) at ⌝ }
 {
     let end = literals_end(script, at);
-    let from = at + 2;
+    let from = first(script, at);
     &script[from..end]
 }
 
-// A solve's budget of conflicts.
-pub fn budget(script: &[u32], at: usize) -> u32
+// The i-th cell behind its literals, 0 where it has none.
+pub fn behind(script: &[u32], at: usize, i: usize) -> u32
     requires { ⌜ RecordAt (now script) at ⌝ }
-    requires { ⌜ kind-at (now script) at ≡ 2 ⌝ }
-    ensures { λ r. ⌜ r ≡ budget-at (now (script .entry)) at ⌝ }
+    ensures { λ r. ⌜ r ≡ getD (behind-at (now (script .entry)) at) i 0 ⌝ }
 {
-    let end = literals_end(script, at);
-    script[end]
-}
-
-// The cells behind the literals of a record of this kind.
-fn trailing(kind: u32) -> usize
-    ensures { λ r. ⌜ r ≡ trailing kind ⌝ }
-{
-    if kind == 2 { 1 } else { 0 }
+    if i < trailing(kind(script, at)) {
+        let end = literals_end(script, at);
+        return script[end + i];
+    }
+    0
 }
 
 // Where the next record begins.
@@ -88,7 +177,7 @@ pub fn next(script: &[u32], at: usize) -> usize
     requires { ⌜ RecordAt (now script) at ⌝ }
     ensures { λ r. ⌜ r ≡ next-at (now (script .entry)) at ⌝ }
 {
-    at + 2 + (count(script, at) + trailing(kind(script, at)))
+    literals_end(script, at) + trailing(kind(script, at))
 }
 
 // ---- the rows of a record
@@ -112,20 +201,23 @@ fn judge_literals(script: &[u32], from: usize, to: usize, v: usize) -> Judgement
     Judgement::Accepted
 }
 
-// Row 11, of a solve.
-fn judge_budget(script: &[u32], at: usize) -> Judgement
+// Row 11 for each cell behind the literals.
+fn judge_limits(script: &[u32], at: usize) -> Judgement
     requires { ⌜ RecordAt (now script) at ⌝ }
-    ensures { λ r. ⌜ Judged r (budget-rows (kind-at (now (script .entry)) at) (at + 2 + count-at (now (script .entry)) at) (budget-at (now (script .entry)) at)) ⌝ }
+    ensures { λ r. ⌜ Judged r (last-rows (now (script .entry)) at) ⌝ }
 {
-    if kind(script, at) != 2 {
-        return Judgement::Accepted;
-    }
+    let kind = kind(script, at);
     let end = literals_end(script, at);
-    if 1000000 < budget(script, at) {
-        return Judgement::Refused {
-            number: 11,
-            place: end as u64,
-        };
+    let cells = trailing(kind);
+    let mut i: usize = 0;
+    while i < cells {
+        if limit(kind, i) < script[end + i] {
+            return Judgement::Refused {
+                number: 11,
+                place: (end + i) as u64,
+            };
+        }
+        i += 1;
     }
     Judgement::Accepted
 }
@@ -136,22 +228,13 @@ fn judge_body(script: &[u32], at: usize, v: usize) -> Judgement
     ensures { λ r. ⌜ Judged r (body-rows v (now (script .entry)) at) ⌝ }
 {
     let end = literals_end(script, at);
-    match judge_literals(script, at + 2, end, v) {
+    match judge_literals(script, first(script, at), end, v) {
         Judgement::Refused { number, place } => Judgement::Refused {
             number: number,
             place: place,
         },
-        Judgement::Accepted => judge_budget(script, at),
+        Judgement::Accepted => judge_limits(script, at),
     }
-}
-
-fn known_kind(kind: u32) -> bool
-    ensures { λ r. ⌜ r ≡ (eqb kind 1 || eqb kind 2) ⌝ }
-{
-    if kind == 1 {
-        return true;
-    }
-    kind == 2
 }
 
 // Row 7, and 8 for a missing count.
@@ -160,13 +243,14 @@ fn judge_kind(script: &[u32], at: usize) -> Judgement
     ensures { λ r. ⌜ Judged r (kind-rows (now (script .entry)) at) ⌝ }
 {
     let end = script.len();
-    if !known_kind(script[at]) {
+    let kind = kind(script, at);
+    if !known(kind) {
         return Judgement::Refused {
             number: 7,
             place: at as u64,
         };
     }
-    if end - at < 2 {
+    if end - at < 2 + lead(kind) {
         return Judgement::Refused {
             number: 8,
             place: end as u64,
@@ -177,21 +261,23 @@ fn judge_kind(script: &[u32], at: usize) -> Judgement
 
 // Row 10, and 8 for what the count asks for.
 fn judge_count(script: &[u32], at: usize, v: usize) -> Judgement
-    requires { ⌜ (at + 2 ≤ length (now script)) × (v ≤ max-variables) ⌝ }
+    requires { ⌜ first-at (now script) at ≤ length (now script) ⌝ }
+    requires { ⌜ v ≤ max-variables ⌝ }
     ensures { λ r. ⌜ Judged r (count-rows v (now (script .entry)) at) ⌝ }
 {
-    let n = script.len();
-    let size = wide(script[at + 1]);
-    if 2 * v < size {
+    let kind = kind(script, at);
+    let first = first(script, at);
+    let count = count(script, at);
+    if most_count(kind, v) < count {
         return Judgement::Refused {
             number: 10,
-            place: (at + 1) as u64,
+            place: (first - 1) as u64,
         };
     }
-    if n - (at + 2) < size + trailing(script[at]) {
+    if script.len() - first < count + trailing(kind) {
         return Judgement::Refused {
             number: 8,
-            place: n as u64,
+            place: script.len() as u64,
         };
     }
     Judgement::Accepted
@@ -227,7 +313,7 @@ fn judge_records(script: &[u32], v: usize) -> Judgement
     requires { ⌜ v ≤ max-variables ⌝ }
     ensures { λ r. ⌜ Judged r (rows-from v (now (script .entry)) header-cells) ⌝ }
 {
-    let mut at: usize = 6;
+    let mut at: usize = HEADER_CELLS;
     while at < script.len() {
         let here = judge_record(script, at, v);
         match here {
@@ -261,25 +347,25 @@ fn judge_sizes(script: &[u32]) -> Judgement
     ensures { λ r. ⌜ Judged r (size-rows (length (now (script .entry))) (header (now (script .entry)))) ⌝ }
 {
     let cells = script.len();
-    if cells < 6 {
+    if cells < HEADER_CELLS {
         return Judgement::Refused {
             number: 1,
             place: cells as u64,
         };
     }
-    if !from_one(script[0], 4096) {
+    if !from_one(script[0], MAX_VARIABLES) {
         return Judgement::Refused {
             number: 2,
             place: 0,
         };
     }
-    if 65535 < script[1] {
+    if MAX_CLAUSES < script[1] {
         return Judgement::Refused {
             number: 3,
             place: 1,
         };
     }
-    if 1048576 < script[2] {
+    if MAX_LITERALS < script[2] {
         return Judgement::Refused {
             number: 3,
             place: 2,
@@ -293,19 +379,19 @@ fn judge_options(script: &[u32]) -> Judgement
     requires { ⌜ header-cells ≤ length (now script) ⌝ }
     ensures { λ r. ⌜ Judged r (option-rows (header (now (script .entry)))) ⌝ }
 {
-    if 2 < script[3] {
+    if MAX_MODE < script[3] {
         return Judgement::Refused {
             number: 4,
             place: 3,
         };
     }
-    if 2 < script[4] {
+    if MAX_PHASE < script[4] {
         return Judgement::Refused {
             number: 4,
             place: 4,
         };
     }
-    if !from_one(script[5], 1000) {
+    if !from_one(script[5], MAX_UNIT) {
         return Judgement::Refused {
             number: 4,
             place: 5,
@@ -336,7 +422,7 @@ fn wider(x: u32) -> u64
 pub fn work_len(v: u32, c: u32, l: u32) -> u64
     ensures { λ r. ⌜ r ≡ work-needed (sized v c l) ⌝ }
 {
-    32 * wider(v) + 8 * wider(c) + wider(l) + 64
+    WORK_PER_VARIABLE * wider(v) + WORK_PER_CLAUSE * wider(c) + wider(l) + WORK_BESIDES
 }
 
 // Rows 5 and 6.
@@ -376,28 +462,16 @@ fn judge_front(script: &[u32], work: usize, activities: usize) -> Judgement
 
 // ---- out
 
-// The out cells that a record may need.
-fn cost(script: &[u32], at: usize, v: usize) -> u64
-    requires { ⌜ RecordAt (now script) at ⌝ }
-    requires { ⌜ v ≤ max-variables ⌝ }
-    ensures { λ r. ⌜ r ≡ cost-at v (now (script .entry)) at ⌝ }
-{
-    if kind(script, at) == 2 {
-        return v as u64 + 4;
-    }
-    1
-}
-
 // The out cells that the records may need, if they are within the bound. The whole sum need not fit.
 fn out_need(script: &[u32], v: usize, bound: u64) -> Need
     requires { ⌜ Readable v (now script) header-cells ⌝ }
     requires { ⌜ v ≤ max-variables ⌝ }
     ensures { λ r. ⌜ r ≡ within (out-needed v (records-from (now (script .entry)) header-cells)) bound ⌝ }
 {
-    let mut at: usize = 6;
+    let mut at: usize = HEADER_CELLS;
     let mut cells: u64 = 0;
     while at < script.len() {
-        let more = cost(script, at, v);
+        let more = cost(kind(script, at), v);
         if bound - cells < more {
             return Need::More;
         }
@@ -429,7 +503,7 @@ fn judge_out(script: &[u32], v: usize, out: usize) -> Judgement
         Need::Cells(_) => Judgement::Accepted,
         Need::More => Judgement::Refused {
             number: 12,
-            place: out_capped(script, v, 4294967295),
+            place: out_capped(script, v, MAX_PLACE),
         },
     }
 }
@@ -471,7 +545,7 @@ fn records_out_len(script: &[u32], v: usize) -> u64
             number: _,
             place: _,
         } => 0,
-        Judgement::Accepted => out_capped(script, v, 18446744073709551615),
+        Judgement::Accepted => out_capped(script, v, MAX_CELLS),
     }
 }
 

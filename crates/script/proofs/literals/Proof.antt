@@ -1,5 +1,5 @@
-use Prim.Native.Nat.{_+_}
-use mathlib.Core.Path.{ap, _∙_}
+use Prim.Native.Nat.{ℕ}
+use mathlib.Core.Path.{ap₂, _∙_}
 use Rattle.script.specs.Walk.{part, literals-part}
 use borrow.Author.Needs.{needs}
 use Rattle.script.proofs.literals.Statement.{statement}
@@ -8,8 +8,8 @@ use Rattle.script.proofs.literals.Tie as tie
 literals-end-requires : tie.Need-literals-end-requires
 literals-end-requires c κs = search needs
 
-add-from : tie.Need-add-from
-add-from c = search needs
+first-requires : tie.Need-first-requires
+first-requires c κs = search needs
 
 mul-result : tie.Need-mul-result
 mul-result c = search needs
@@ -25,17 +25,8 @@ part-result-end c = search needs
 
 returns : tie.Need-returns
 returns c =
-    let a = c .before .before .before .args in
-    ap (λ e. part (a .script .now) (a .at + 2) e) (c .before .literals-end .ensures) ∙ literals-part (a .script .now) (a .at)
+    let a = c .before .before .before .before .args in
+    ap₂ (λ (f e : ℕ). part (a .script .now) f e) (c .before .first .ensures) (c .before .before .literals-end .ensures) ∙ literals-part (a .script .now) (a .at)
 
 pub literals-spec : {M : Type 1} → statement M
-literals-spec =
-    tie.close
-    (tie.spec
-    literals-end-requires
-    add-from
-    mul-result
-    sub-result
-    part-result-start
-    part-result-end
-    returns)
+literals-spec = tie.close (tie.spec literals-end-requires first-requires mul-result sub-result part-result-start part-result-end returns)

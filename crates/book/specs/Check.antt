@@ -1,16 +1,14 @@
 -- Demand 3 by computation: a test over all rows, which shows the demand where it passes. It is for scripts of few variables.
-use mathlib.Core.Path.{_≡_, refl, sym, ap, subst, _∙_}
-use mathlib.Core.Logic.{_≢_, _⊎_, inl, inr, ⊎-elim}
+use mathlib.Core.Path.{_≡_, refl, subst, _∙_}
 use mathlib.Core.Bool.{Bool, true, false, not, _&&_, _||_}
-use mathlib.Core.List.{List, [], _∷_, _++_, map, List·Memᴰ·head as here, List·Memᴰ·tail as there, Memᴰ·map as in-map, Memᴰ·append-left as in-left, Memᴰ·append-right as in-right}
-use Prim.Native.Nat.{ℕ, zero, suc, _+_, _*_, _≤_, _<_}
-use native.Mathlib.Omega.{arith}
-use lib.ListN.{length, getD}
-use lib.Dec.{T, leb, ltb, eqb, eqb→eq, leb→le, eqb-refl, eqb·zero-suc, eqb·suc-zero, eqb·suc-suc, leb·suc-suc, leb·suc-zero}
+use mathlib.Core.List.{List, [], _∷_, _++_, map, List·Memᴰ·head as here, Memᴰ·map as in-map, Memᴰ·append-left as in-left, Memᴰ·append-right as in-right}
+use Prim.Native.Nat.{ℕ, zero, suc, _+_}
+use lib.ListN.{length}
+use lib.Dec.{T, leb, eqb, eqb→eq, leb→le, eqb-refl, eqb·zero-suc, eqb·suc-zero, eqb·suc-suc, leb·suc-suc, leb·suc-zero}
 use Rattle.model.specs.Lit.{neg}
 use Rattle.model.specs.Script.{header, records-of}
 use Rattle.model.specs.Book.{all, any, has, holds, in-range-of, is-row, is-model, is-common, Follows, No-model, Entry, at-clause, at-solve, history, cells-of, TRUE, FALSE, UNDEF, is-cause, Demand-3}
-use Rattle.lawbase.specs.Basics.{_∈_, Every}
+use Rattle.lawbase.specs.Basics.{_∈_}
 use Rattle.book.specs.Booleans.{both, and, all-every}
 use Rattle.book.specs.Demand.{FairClause, FairSolve, Fair, Honest, demand}
 

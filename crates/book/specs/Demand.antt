@@ -1,18 +1,18 @@
 -- What it takes to show demand 3: a few facts of each answer. The other sentences follow from them.
 use mathlib.Core.Path.{_≡_, refl, sym, ap, subst, _∙_}
 use mathlib.Core.Logic.{_≢_, _⊎_, inl, inr, _↔_}
-use mathlib.Core.Bool.{Bool, true, false, _&&_, _||_}
-use mathlib.Core.List.{List, [], _∷_, _++_, List·Memᴰ·head as here, List·Memᴰ·tail as there, List·Memᴰ·not-nil as not-nil}
+use mathlib.Core.Bool.{Bool, _&&_}
+use mathlib.Core.List.{List, [], _∷_, _++_}
 use Prim.Native.Nat.{ℕ, zero, suc, _+_, _*_, _≤_, _<_}
 use native.Mathlib.Omega.{arith}
 use native.Mathlib.Nat.{not-suc-le-zero}
 use lib.ListN.{length, getD}
-use lib.Dec.{T, leb, ltb, eqb, eqb→eq, eqb-refl, ltb→lt, lt→ltb, leb→le, le→leb}
+use lib.Dec.{T, leb, eqb, eqb→eq, eqb-refl, ltb→lt}
 use Rattle.model.specs.Lit.{var, sign, neg}
 use Rattle.model.specs.Script.{header, records-of}
-use Rattle.model.specs.Book.{all, any, has, holds, in-range-of, is-row, is-model, is-common, Common, Follows, No-model, same-literals, has-clause, same-clauses, book-of, Clause-entry, Solve-entry, Entry, at-clause, at-solve, history, cells-of, TRUE, FALSE, UNDEF, causes, is-cause, Clause-in, Solve-in, Answers, Same-verdict, Demand-3}
+use Rattle.model.specs.Book.{all, any, has, holds, in-range-of, is-row, is-model, is-common, Common, Follows, No-model, same-literals, has-clause, same-clauses, book-of, Solve-entry, Entry, at-clause, at-solve, history, cells-of, TRUE, FALSE, UNDEF, causes, is-cause, Solve-in, Answers, Same-verdict, Demand-3}
 use Rattle.lawbase.specs.Basics.{_∈_, Every, split, same?}
-use Rattle.book.specs.Booleans.{both, and, all-every, every-all, any-some, some-any, has-in, in-has, holds-eq, eq-holds, not-both}
+use Rattle.book.specs.Booleans.{both, and, all-every, every-all, any-some, some-any, has-in, holds-eq, eq-holds, not-both}
 
 -- a clause and its answer, after the clauses
 pub record FairClause (v : ℕ) (clauses : List (List ℕ)) (c : List ℕ) (answer : ℕ) : Type 0 where

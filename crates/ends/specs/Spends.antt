@@ -5,7 +5,7 @@ use mathlib.Core.List.{List, [], _∷_, List·Memᴰ·head as here}
 use Prim.Native.Nat.{ℕ, suc, _+_, _*_, _≤_, _<_}
 use native.Mathlib.Omega.{arith}
 use lib.ListN.{getD}
-use Rattle.model.specs.Lit.{undef-lit, no-reason, l-true, l-false, l-undef}
+use Rattle.model.specs.Lit.{no-reason, l-true, l-false, l-undef}
 use Rattle.model.specs.Script.{Config, Record, clause, solve}
 use Rattle.model.specs.State.{State, Solver, with-ok, initial}
 use Rattle.model.specs.Trail.{cancel-until}
@@ -25,7 +25,7 @@ use Rattle.ends.specs.Comes.{advance-propagates, Comes, conflict, decisi
 use Rattle.ends.specs.Turns.{Then}
 use Rattle.ends.specs.Rounds.{Final}
 use Rattle.ends.specs.Bounds.{Limited, conflicts-had, conflicts-spent}
-use Rattle.ends.specs.Answer.{Idle, found-by, solve-cases, solve-idle, idle-found}
+use Rattle.ends.specs.Answer.{Idle, found-by, solve-cases, idle-found}
 use Rattle.ends.specs.Out.{step-idle, initial-idle}
 
 -- what a state may still spend: nothing, once the clauses are known to have no model

@@ -1,20 +1,20 @@
 -- What an accepted script brings, and the states that a run passes through between two records.
 use mathlib.Core.Path.{_≡_, refl, sym, subst}
 use mathlib.Core.List.{List, [], _∷_, _++_, List·Memᴰ·head as here, Memᴰ·append-left as in-left}
-use Prim.Native.Nat.{ℕ, _*_, _≤_, _<_}
-use native.Mathlib.Omega.{arith}
+use Prim.Native.Nat.{ℕ, _≤_}
+use lib.ListN.{drop}
+use lib.Seq.{drop-at}
 use Rattle.model.specs.Limits as Limits
-use Rattle.model.specs.Script.{Config, Record, clause, solve, accepted, header, records-of, read}
-use Rattle.model.specs.State.{State, Solver, initial}
-use Rattle.model.specs.Run.{step}
-use Rattle.model.specs.Book.{taken-by}
+use Rattle.model.specs.Script.{Config, Record, clause, solve, header, records-of}
+use Rattle.model.specs.State.{Solver, initial}
+use Rattle.model.specs.Run.{step, answers}
+use Rattle.model.specs.Book.{answer-cells, taken-by}
 use Rattle.lawbase.specs.Basics.{_∈_, Every, shrink}
 use Rattle.lawbase.specs.Range.{Ranged}
-use Rattle.lawbase.specs.WellFormed.{WellFormed}
 use Rattle.ends.specs.Bounds.{Limited}
 use Rattle.sound.specs.Sound.{Ready, initial-ready}
-use Rattle.sound.specs.Run.{Fits, step-fair}
-use Rattle.script.specs.Accepted.{Accepted, RecordFits, accepted-of}
+use Rattle.sound.specs.Run.{Fits, Reads, step-fair}
+use Rattle.script.specs.Accepted.{Accepted, RecordFits}
 
 ranged : (v : ℕ) (r : Record) → RecordFits v r → Ranged v r
 ranged v (clause c) f = f .literals
@@ -47,26 +47,47 @@ unfoldable pub left-by : Config → List Record → Solver → Solver
 left-by cfg [] x = x
 left-by cfg (r ∷ rs) x = left-by cfg rs (step cfg r x .solver)
 
--- the clauses taken and the clauses learnt, with the state
-pub record Between (cfg : Config) (x : Solver) : Type 0 where
-  pub taken : List (List ℕ)
+-- the clauses taken after records and their answers
+unfoldable pub taken-after : List (List ℕ) → List Record → List ℕ → List (List ℕ)
+taken-after taken [] out = taken
+taken-after taken (r ∷ rs) out = taken-after (taken-by taken r out) rs (drop (answer-cells r out) out)
+
+taken-more : (taken : List (List ℕ)) (r : Record) (rs : List Record) (answer out : List ℕ) → Reads taken r answer
+    → taken-after taken (r ∷ rs) (answer ++ out) ≡ taken-after (taken-by taken r answer) rs out
+unfolding taken-after
+taken-more taken r rs answer out c =
+    rw (c .taken-is out, drop-at answer out (answer-cells r (answer ++ out)) (sym (c .cells out)))
+
+-- the clauses learnt, with the clauses taken and the state
+pub record Between (cfg : Config) (taken : List (List ℕ)) (x : Solver) : Type 0 where
   pub log : List (List ℕ)
   pub ready : Ready cfg taken log (x .state)
 
 module _ {cfg : Config} (small : cfg .variables ≤ Limits.max-variables) (few : cfg .max-clauses ≤ Limits.max-clauses) where
-  pub left-ready : (rs : List Record) (x : Solver) → Every (Ranged (cfg .variables)) rs → Between cfg x → Between cfg (left-by cfg rs x)
-  unfolding left-by
-  left-ready [] x f b = b
-  left-ready (r ∷ rs) x f b =
-      let s = step-fair cfg small few (b .taken) (b .log) r (f r (here refl)) x (b .ready) in
-      left-ready rs (step cfg r x .solver) (shrink f)
-      (record { taken = taken-by (b .taken) r (step cfg r x .answer); log = s .log; ready = s .ready })
+  pub left-ready : (rs : List Record) (x : Solver) → Every (Ranged (cfg .variables)) rs → (taken : List (List ℕ)) → Between cfg taken x
+      → Between cfg (taken-after taken rs (answers cfg rs x)) (left-by cfg rs x)
+  unfolding left-by answers taken-after
+  left-ready [] x f taken b = b
+  left-ready (r ∷ rs) x f taken b =
+      let s = step-fair cfg small few taken (b .log) r (f r (here refl)) x (b .ready) in
+      let done = step cfg r x in
+      subst (λ t. Between cfg t (left-by cfg rs (done .solver))) (sym (taken-more taken r rs (done .answer) (answers cfg rs (done .solver)) (s .reads)))
+      (left-ready rs (done .solver) (shrink f) (taken-by taken r (done .answer)) (record { log = s .log; ready = s .ready }))
 
 -- at each place of an accepted script
+module _ (s : List ℕ) (before : List Record) where
+  -- the solver there
+  abbrev pub solver-after : Solver
+  solver-after = left-by (header s) before (initial (header s .variables))
+
+  -- the clauses taken before it
+  abbrev pub taken-before : List (List ℕ)
+  taken-before = taken-after [] before (answers (header s) before (initial (header s .variables)))
+
 module _ (s : List ℕ) (work activities out : ℕ) (a : Accepted s work activities out) where
-  pub between : (before after : List Record) → records-of s ≡ before ++ after → Between (header s) (left-by (header s) before (initial (header s .variables)))
+  pub between : (before after : List Record) → records-of s ≡ before ++ after → Between (header s) (taken-before s before) (solver-after s before)
   unfolding initial
   between before after e =
       left-ready (a .header-fits .variables) (a .header-fits .clauses) before (initial (header s .variables))
       (λ r i. fits s work activities out a .records r (subst (λ (l : List Record). r ∈ l) (sym e) (in-left after i)))
-      (record { taken = []; log = []; ready = initial-ready (header s) })
+      [] (record { log = []; ready = initial-ready (header s) })

@@ -1,7 +1,7 @@
 -- The whole run: the book's demand holds of the answers that the definition gives.
-use mathlib.Core.Path.{_≡_, refl, sym, ap, _∙_, subst}
+use mathlib.Core.Path.{_≡_, refl, sym, ap}
 use mathlib.Core.List.{List, [], _∷_, _++_, List·Memᴰ·head as here}
-use Prim.Native.Nat.{ℕ, _+_, _*_, _≤_, _<_}
+use Prim.Native.Nat.{ℕ, _+_, _≤_}
 use native.Mathlib.Omega.{arith}
 use lib.ListN.{length, drop, length-append}
 use lib.Seq.{take-at, drop-at, take-length}
@@ -11,14 +11,14 @@ use Rattle.model.specs.State.{Solver, initial}
 use Rattle.model.specs.Intake.{add-clause}
 use Rattle.model.specs.Search.{Solved}
 use Rattle.model.specs.Run.{step, answers, run}
-use Rattle.model.specs.Book.{Entry, fed, book-of, entry, answer-cells, taken-by, entries, cells-of, history, Demand-3}
+use Rattle.model.specs.Book.{entry, answer-cells, taken-by, entries, cells-of, history, Demand-3}
 use Rattle.lawbase.specs.Basics.{Every, every-nil, every-cons, shrink}
 use Rattle.lawbase.specs.Range.{Ranged}
-use Rattle.book.specs.Demand.{FairClause, FairSolve, Fair, Honest, demand, book-taken}
+use Rattle.book.specs.Demand.{FairSolve, Fair, demand, book-taken}
 use Rattle.sound.specs.Sound.{Ready, initial-ready}
 use Rattle.sound.specs.Taking.{add-ready, add-answer}
 use Rattle.sound.specs.Answers.{add-no-model}
-use Rattle.sound.specs.Solve.{Told, solves}
+use Rattle.sound.specs.Solve.{solves}
 
 -- ---- what is asked of a script
 

@@ -15,7 +15,7 @@ use Rattle.sound.specs.Verdict.{Solving, Verdict, models, refutes, fails
 use Rattle.sound.specs.Turns.{turn-turned}
 
 -- what a search that is undecided leaves
-verdict-solving : {cfg : Config} {ps : List ℕ} {taken : List (List ℕ)} {st : Status} {s : State} → Verdict cfg ps taken st s → st ≡ UNDEF
+pub verdict-solving : {cfg : Config} {ps : List ℕ} {taken : List (List ℕ)} {st : Status} {s : State} → Verdict cfg ps taken st s → st ≡ UNDEF
     → (log : List (List ℕ)) × Solving cfg ps taken log s
 verdict-solving (models s log k h) e = absurd (let z : _≡_ {A = ℕ} 0 1 = cc in omega arith)
 verdict-solving (refutes s log k) e = absurd (let z : _≡_ {A = ℕ} 0 1 = cc in omega arith)

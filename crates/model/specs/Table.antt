@@ -29,7 +29,7 @@ with-unit-0 = with-vars (initial-state 2) (unchecked-enqueue (initial-state 2 .v
 pub record Table : Type 0 where
   pub p1 : neg 7 ≡ 6
   pub p2 : first (0 ∷ 1 ∷ []) ≡ record { state = initial-state 2; answer = 1 }
-  pub p3 : out (script 2 (1 ∷ 0 ∷ 2 ∷ 0 ∷ 1 ∷ [])) ≡ 0 ∷ 1 ∷ 0 ∷ 0 ∷ []
+  pub p3 : out (script 2 (1 ∷ 0 ∷ 2 ∷ 0 ∷ 1 ∷ 2 ∷ 1 ∷ 2 ∷ 1 ∷ [])) ≡ 0 ∷ 1 ∷ 0 ∷ 0 ∷ 1 ∷ 0 ∷ 0 ∷ []
   pub p4 : first (0 ∷ 0 ∷ []) ≡ record { state = with-unit-0; answer = 1 }
   pub p5 : out (script 2 (1 ∷ 1 ∷ 0 ∷ 1 ∷ 1 ∷ 1 ∷ [])) ≡ 1 ∷ 0 ∷ []
   pub p6 : out (script 1 (2 ∷ 0 ∷ 0 ∷ [])) ≡ 2 ∷ 0 ∷ 1 ∷ 1 ∷ []

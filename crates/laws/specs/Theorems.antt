@@ -15,8 +15,8 @@ use Rattle.model.specs.Propagate.{propagate}
 use Rattle.model.specs.Analyze.{first-uip, analyze}
 use Rattle.model.specs.Final.{analyze-final}
 use Rattle.model.specs.Search.{FALSE, Searched, ends, add-learnt-and-backtrack, search, solve-internal, most-conflicts, most-levels, most-turns, UNDEF}
-use Rattle.model.specs.Run.{run}
-use Rattle.model.specs.Book.{Demand-3, Same-verdict}
+use Rattle.model.specs.Run.{step, run}
+use Rattle.model.specs.Book.{entry, history, Demand-3, Same-verdict}
 use Rattle.lawbase.specs.Basics.{_∈_}
 use Rattle.lawbase.specs.WellFormed.{WellFormed}
 use Rattle.learning.specs.FirstUip as Uip
@@ -38,7 +38,7 @@ use Rattle.sound.specs.Steps.{advance-sound}
 use Rattle.sound.specs.Conflicts.{learnt-full}
 use Rattle.sound.specs.Run.{run-demand}
 use Rattle.script.specs.Accepted.{Accepted}
-use Rattle.laws.specs.Run.{solver-after, taken-before, between, fits, limited, all-ranged}
+use Rattle.laws.specs.Run.{solver-after, taken-before, between, told, fits, limited, all-ranged}
 use Rattle.laws.specs.Reach.{Place, turn-at, Reaches, starts, Meets, Implied, Refuted, Answered, small, standing, clashes, refutes-at, answered}
 
 -- ---- 1. The state is well-formed between two records, and wherever the run stands before a turn of a search (`Reaches`, module Reach). Nothing is left
@@ -209,6 +209,12 @@ module _ (s : List ℕ) (work activities out : ℕ) (a : Accepted s work activit
 
 pub demand-3 : (s : List ℕ) (work activities out : ℕ) → Accepted s work activities out → Demand-3 s (run (header s) (records-of s))
 demand-3 s work activities out a = run-demand s (fits s work activities out a)
+
+-- what the book is told of each record of the run: the clauses taken before it, and the cells of its step
+pub told-of-each : (s : List ℕ) (work activities out : ℕ) → Accepted s work activities out
+    → (before : List Record) (r : Record) (after : List Record) → records-of s ≡ before ++ (r ∷ after)
+    → entry (taken-before s before) r (step (header s) r (solver-after s before) .answer) ∈ history s (run (header s) (records-of s))
+told-of-each = told
 
 -- same clauses, same assumptions: same verdict, in two scripts as in one
 pub agreement : (s : List ℕ) (work activities out : ℕ) → Accepted s work activities out

@@ -2,13 +2,11 @@
 use Prim.Native.Nat.{ℕ, zero, suc, _+_, _≤_}
 use native.Mathlib.Omega.{arith}
 use mathlib.Core.Path.{_≡_, sym, ap, subst}
-use mathlib.Core.Bool.{Bool, true, false}
+use mathlib.Core.Bool.{true, false}
 use mathlib.Core.List.{List, [], _∷_, _++_}
 use lib.ListN.{length, getD, take, drop}
-use lib.Dec.{eqb, leb}
-use Rattle.model.specs.Limits as Limits
 use Rattle.model.specs.Limits.{header-cells}
-use Rattle.model.specs.Script.{Config, Record, Row, row, Reading, refused, accepted, solve-kind, trailing, header, records-of, header-rows, slice-rows, literal-rows, budget-rows, record-rows, out-needed, out-rows, judge, read}
+use Rattle.model.specs.Script.{Config, Record, Row, row, Reading, refused, accepted, lead, limits, trailing, header, records-of, header-rows, slice-rows, literal-rows, limit-rows, record-rows, out-needed, out-rows, judge, read}
 
 -- every row has a number
 abbrev Numbered : List Row → Type 0
@@ -39,22 +37,22 @@ unfolding literal-rows
 literals-numbered v at [] = tt
 literals-numbered v at (l ∷ ls) = (omega arith, literals-numbered v (at + 1) ls)
 
-budget-numbered : (kind at budget : ℕ) → Numbered (budget-rows kind at budget)
-unfolding budget-rows
-budget-numbered kind at budget = go (eqb kind solve-kind)
-  where
-    go : (b : Bool) → Numbered (elim b [ true ↦ row 11 (leb budget Limits.max-budget) at ∷ [] | false ↦ [] ])
-    go true = (omega arith, tt)
-    go false = tt
+limits-numbered : (at : ℕ) (most cells : List ℕ) → Numbered (limit-rows at most cells)
+unfolding limit-rows
+limits-numbered at [] cells = tt
+limits-numbered at (m ∷ ms) cells = (omega arith, limits-numbered (at + 1) ms (drop 1 cells))
 
 records-numbered : (v n turns at : ℕ) (cells : List ℕ) → Numbered (record-rows v n turns at cells)
 unfolding record-rows
 records-numbered v n zero at cells = tt
 records-numbered v n (suc turns) at [] = tt
 records-numbered v n (suc turns) at (kind ∷ rest) =
-    let count = getD rest 0 0 in
-    let body = drop 1 rest in
-    let size = count + trailing kind in (
+    let count = getD rest (lead kind) 0 in
+    let body = drop (lead kind + 1) rest in
+    let first = at + 2 + lead kind in
+    let size = count + trailing kind in
+    let literals = literal-rows v first (take count body) in
+    let behind = limit-rows (first + count) (limits kind) (drop count body) in (
       omega arith,
       (
         omega arith,
@@ -62,10 +60,9 @@ records-numbered v n (suc turns) at (kind ∷ rest) =
           omega arith,
           (
             omega arith,
-            numbered-append (literal-rows v (at + 2) (take count body) ++ budget-rows kind (at + 2 + count) (getD body count 0)) (record-rows v n turns (at + 2 + size) (drop size body))
-                (numbered-append (literal-rows v (at + 2) (take count body)) (budget-rows kind (at + 2 + count) (getD body count 0)) (literals-numbered v (at + 2) (take count body))
-                (budget-numbered kind (at + 2 + count) (getD body count 0)))
-                (records-numbered v n turns (at + 2 + size) (drop size body)),
+            numbered-append (literals ++ behind) (record-rows v n turns (first + size) (drop size body))
+                (numbered-append literals behind (literals-numbered v first (take count body)) (limits-numbered (first + count) (limits kind) (drop count body)))
+                (records-numbered v n turns (first + size) (drop size body)),
           ),
         ),
       ),

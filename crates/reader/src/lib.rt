@@ -8,7 +8,7 @@ pub struct Reader<'a> {
     pub at: usize,
 }
 
-// A record in numbers: its kind, a solve's budget or 0, and where the next record begins.
+// A record in numbers: its kind, the cell behind its literals or 0, and where the next record begins.
 pub struct Seen {
     pub kind: u32,
     pub budget: u32,
@@ -41,13 +41,10 @@ fn asked(script: &[u32], at: usize) -> u32
     requires { ⌜ RecordAt (now script) at ⌝ }
     ensures { λ r. ⌜ r ≡ asked-at (now (script .entry)) at ⌝ }
 {
-    if script::kind(script, at) == 2 {
-        return script::budget(script, at);
-    }
-    0
+    script::behind(script, at, 0)
 }
 
-// A solve's budget; 0 for a clause.
+// The cell behind its literals, a solve's budget; 0 where there is none.
 pub fn budget<'a>(r: Reader<'a>) -> u32
     requires { ⌜ RecordAt (now (r .script)) (r .at) ⌝ }
     ensures { λ b. ⌜ b ≡ asked-at (now (r .entry .script)) (r .entry .at) ⌝ }

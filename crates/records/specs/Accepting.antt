@@ -5,7 +5,7 @@ use mathlib.Core.Path.{_≡_, refl, sym, ap, _∙_, subst}
 use mathlib.Core.List.{List, _++_}
 use lib.ListN.{length, getD, take, drop, replicate}
 use lib.Seq.{length-take-le}
-use Rattle.model.specs.Limits.{header-cells}
+use Rattle.model.specs.Limits as Limits
 use Rattle.model.specs.Script.{header, records-of, work-needed}
 use Rattle.model.specs.Script as Script
 use Rattle.ends.specs.Bounds.{Limited}
@@ -23,23 +23,17 @@ pub config-is : (s : List ℕ) (v c l : ℕ) → v ≡ getD s 0 0 → c ≡ getD
 unfolding header
 config-is s v c l ev ec el = rw (ev, ec, el)
 
--- the cells that a run asks of work
-abbrev pub need : Config → ℕ
-need g = 32 * g .sizes .vars + 8 * g .sizes .room + g .sizes .«lit_room» + 64
-
 module _ (g : Config) (s : List ℕ) (work activities out : ℕ) (a : Accepted s work activities out) (e : config-of g ≡ header s) where
-  pub sizes : Limited (config-of g)
+  sizes : Limited (config-of g)
   sizes = subst Limited (sym e) (limited s work activities out a)
 
-  pub lits : g .sizes .«lit_room» ≤ 1048576
+  lits : g .sizes .«lit_room» ≤ Limits.max-literals
   lits = omega (arith, a .header-fits .literals, ap (λ (c : Script.Config). c .max-literals) e)
 
-  pub need-is : need g ≡ work-needed (header s)
+  -- the cells that a run asks of work
+  need-is : Limits.work-per-variable * g .sizes .vars + Limits.work-per-clause * g .sizes .room + g .sizes .«lit_room» + Limits.work-besides ≡ work-needed (header s)
   unfolding work-needed
   need-is = ap work-needed e
-
-  pub need-fits : need g ≤ work
-  need-fits = omega (arith, need-is, a .work-fits)
 
   pub vars-are : g .sizes .vars ≡ header s .variables
   vars-are = ap (λ (c : Script.Config). c .variables) e
@@ -47,12 +41,12 @@ module _ (g : Config) (s : List ℕ) (work activities out : ℕ) (a : Accepted s
   pub vars-fit : g .sizes .vars ≤ activities
   vars-fit = omega (arith, vars-are, a .activities-fit)
 
-  pub lent : (n m : ℕ) → n ≡ need g → m ≡ g .sizes .vars → Lent g s n m out
+  pub lent : (n m : ℕ) → n ≡ work-needed (header s) → m ≡ g .sizes .vars → Lent g s n m out
   lent n m f h =
       record {
         config = e;
         limited = sizes;
-        room = record { fits = omega (arith, f); some = sizes .least-variables; vars = sizes .variables; room = sizes .clauses; lit-room = lits };
+        room = record { fits = omega (arith, f, need-is); some = sizes .least-variables; vars = sizes .variables; room = sizes .clauses; lit-room = lits };
         counted = h;
         readable = rw vars-are (a .readable);
         fits = rw vars-are (a .out-fits);

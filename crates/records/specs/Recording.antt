@@ -2,17 +2,13 @@
 use Prim.Native.Nat.{ℕ, _+_, _*_, _≤_, _<_}
 use native.Mathlib.Omega.{arith}
 use mathlib.Core.Path.{_≡_, refl, sym, ap, _∙_, subst}
-use mathlib.Core.Logic.{_⊎_, inl, inr}
-use mathlib.Core.Bool.{Bool, true, false}
 use mathlib.Core.List.{List, [], _∷_, _++_, append-assoc, append-nil}
 use lib.ListN.{length, take, drop, length-take, take-append-drop}
 use lib.Seq.{paste, take-paste, drop-paste, length-paste, take-length, drop-drop, length-take-le}
 use lib.Ieee.{Float}
-use lib.Dec.{eqb}
-use borrow.Author.Tests.{eq-eqb, ne-eqb}
-use Rattle.model.specs.Limits.{header-cells, solve-besides}
+use Rattle.model.specs.Limits.{header-cells}
 use Rattle.model.specs.Script as Script
-use Rattle.model.specs.Script.{Record, clause, solve, clause-kind, solve-kind, header, records-of, out-needed}
+use Rattle.model.specs.Script.{Record, clause, solve, solve-kind, cost, record-as, header, records-of, out-needed}
 use Rattle.model.specs.State.{State, Activity, Solver, initial, initial-state, initial-activity, with-state, decision-level}
 use Rattle.model.specs.Intake.{add-clause}
 use Rattle.model.specs.Search as Search
@@ -20,10 +16,11 @@ use Rattle.model.specs.Search.{Solved}
 use Rattle.model.specs.Run.{step, answers, run}
 use Rattle.lawbase.specs.WellFormed.{WellFormed}
 use Rattle.assign.specs.Initial.{initial-formed}
-use Rattle.script.specs.Walk.{kind-at, count-at, literals-at, budget-at, record-at, records-from, records-step, next-at, RecordAt}
+use Rattle.script.specs.Walk.{kind-at, lead-at, count-at, first-at, literals-at, behind-at, record-at, records-from, records-step, next-at, RecordAt}
+use Rattle.script.specs.Kinds.{kind-cases, record-solve, record-other, most-count-le}
 use Rattle.script.specs.Sound.{RecordIn, Readable, readable-here, readable-next}
 use Rattle.script.specs.Accepted.{records-first}
-use Rattle.script.specs.Needs.{cost-at, cost-solve, cost-clause, needed-step}
+use Rattle.script.specs.Needs.{needed-step}
 use Rattle.script.specs.Answers.{answers-from, run-answers, answers-end}
 use Rattle.reader.specs.declared.Seen.{Seen}
 use Rattle.reader.specs.Seen.{asked-at, seen-at}
@@ -49,28 +46,27 @@ answers-step cfg r rs x = refl
 
 -- ---- one record
 
--- a record by its kind, its literals and its budget
-unfoldable pub record-of : ℕ → List ℕ → ℕ → Record
-record-of kind ls budget = elim (eqb kind solve-kind) [ true ↦ solve ls budget | false ↦ clause ls ]
-
 -- its literals fit, and out has room for its answer from o on
 pub record Fits (g : Config) (kind : ℕ) (ls : List ℕ) (o n : ℕ) : Type 0 where
   pub literals : Assumable g ls
-  pub solve-room : kind ≡ solve-kind → o + (g .sizes .vars + solve-besides) ≤ n
-  pub clause-room : (kind ≡ solve-kind → ⊥) → o + 1 ≤ n
+  pub room : o + cost kind (g .sizes .vars) ≤ n
 
 abbrev clause-step : Script.Config → List ℕ → Solver → Solved
 clause-step cfg c x =
     record { solver = with-state x (add-clause cfg (x .state) c .state); answer = add-clause cfg (x .state) c .answer ∷ [] }
 
+-- a record as the code has it: a reader sees one cell behind the literals
+abbrev pub record-of : ℕ → List ℕ → ℕ → Record
+record-of kind ls budget = record-as kind [] ls (budget ∷ [])
+
 module _ (cfg : Script.Config) (x : Solver) (kind : ℕ) (ls : List ℕ) (budget : ℕ) where
   step-solve : kind ≡ solve-kind → step cfg (record-of kind ls budget) x ≡ Search.solve cfg x ls budget
-  unfolding step record-of
-  step-solve e = rw (eq-eqb kind solve-kind e, record-of)
+  unfolding step
+  step-solve e = ap (λ (r : Record). step cfg r x) (record-solve kind e [] ls (budget ∷ []))
 
   step-clause : (kind ≡ solve-kind → ⊥) → step cfg (record-of kind ls budget) x ≡ clause-step cfg ls x
-  unfolding step record-of
-  step-clause e = rw (ne-eqb kind solve-kind e, record-of)
+  unfolding step
+  step-clause e = ap (λ (r : Record). step cfg r x) (record-other kind e [] ls (budget ∷ []))
 
 -- what the step of a record leaves
 abbrev pub Stepped : Config → Solved → List ℕ → ℕ → Next → List ℕ → List Float → List ℕ → Type 0
@@ -89,13 +85,8 @@ module _ (g : Config) (kind : ℕ) (ls : List ℕ) (budget o : ℕ) (x : Solver)
 -- what a reader sees at a cell is the record there
 module _ (s : List ℕ) (at : ℕ) where
   record-read : record-of (kind-at s at) (literals-at s at) (asked-at s at) ≡ record-at s at
-  unfolding record-of record-at asked-at
-  record-read = go (eqb (kind-at s at) solve-kind)
-    where
-      go : (b : Bool) → _≡_ {A = Record} (elim b as (λ _. Record) [ true ↦ solve (literals-at s at) (elim b as (λ _. ℕ) [ true ↦ budget-at s at | false ↦ 0 ]) | false ↦ clause (literals-at s at) ])
-          (elim b as (λ _. Record) [ true ↦ solve (literals-at s at) (budget-at s at) | false ↦ clause (literals-at s at) ])
-      go true = refl
-      go false = refl
+  unfolding record-as
+  record-read = refl
 
   pub record-seen : (z : Seen) (ls : List ℕ) → z ≡ seen-at s at → ls ≡ literals-at s at → record-of (z .kind) ls (z .budget) ≡ record-at s at
   record-seen z ls e f =
@@ -103,20 +94,11 @@ module _ (s : List ℕ) (at : ℕ) where
 
 -- a step's cells are never more than its cost
 module _ {cfg : Script.Config} (l : Limited cfg) (s : List ℕ) (at : ℕ) (h : RecordIn (cfg .variables) s at) (x : Solver) (i : Idle cfg (x .state)) where
-  step-short : length (step cfg (record-at s at) x .answer) ≤ cost-at (cfg .variables) s at
-  step-short = go (h .kind)
-    where
-      read : step cfg (record-at s at) x ≡ step cfg (record-of (kind-at s at) (literals-at s at) (asked-at s at)) x
-      read = ap (λ (y : Record). step cfg y x) (sym (record-read s at))
-
-      go : (kind-at s at ≡ clause-kind) ⊎ (kind-at s at ≡ solve-kind) → length (step cfg (record-at s at) x .answer) ≤ cost-at (cfg .variables) s at
-      go (inl e) =
-          let n : kind-at s at ≡ solve-kind → ⊥ = λ f. omega (arith, e, f) in
-          let q = ap (λ (z : Solved). length (z .answer)) (read ∙ step-clause cfg x (kind-at s at) (literals-at s at) (asked-at s at) n) in
-          omega (arith, q, cost-clause (cfg .variables) s at n)
-      go (inr e) =
-          let q = ap (λ (z : Solved). length (z .answer)) (read ∙ step-solve cfg x (kind-at s at) (literals-at s at) (asked-at s at) e) in
-          omega (arith, q, cost-solve (cfg .variables) s at e, solve-short l x (literals-at s at) (h .literals) (asked-at s at) i)
+  step-short : length (step cfg (record-at s at) x .answer) ≤ cost (kind-at s at) (cfg .variables)
+  unfolding step record-as cost
+  step-short =
+      kind-cases (λ k. length (step cfg (record-as k (lead-at s at) (literals-at s at) (behind-at s at)) x .answer) ≤ cost k (cfg .variables))
+      (omega arith) (solve-short l x (literals-at s at) (h .literals) (asked-at s at) i) (kind-at s at) (h .kind)
 
 -- ---- all records
 
@@ -187,27 +169,33 @@ module _ (g : Config) (l : Limited (config-of g)) (s out₀ : List ℕ) (x : sea
   here : RecordIn (g .sizes .vars) s at
   here = readable-here (g .sizes .vars) s at inside (k .readable)
 
-  room-here : o + cost-at (g .sizes .vars) s at ≤ length out
-  room-here = omega (arith, k .room, k .size, needed-step (g .sizes .vars) s at inside)
+  needed : out-needed (g .sizes .vars) (records-from s at) ≡ cost (kind-at s at) (g .sizes .vars) + out-needed (g .sizes .vars) (records-from s (next-at s at))
+  needed = needed-step (g .sizes .vars) s at inside (here .kind)
+
+  room-here : o + cost (kind-at s at) (g .sizes .vars) ≤ length out
+  room-here = omega (arith, k .room, k .size, needed)
 
   pub recording-whole : RecordAt s at
   recording-whole = here .whole
 
   literals-fit : Assumable g (literals-at s at)
-  literals-fit = record { count = omega (arith, length-take (count-at s at) (drop (at + 2) s), here .count); range = here .literals }
+  literals-fit =
+      record {
+        count = omega (arith, length-take (count-at s at) (drop (first-at s at) s), here .count, most-count-le (kind-at s at) (g .sizes .vars));
+        range = here .literals;
+      }
 
   pub recording-fits : (kind : ℕ) (ls : List ℕ) → kind ≡ kind-at s at → ls ≡ literals-at s at → Fits g kind ls o (length out)
   recording-fits kind ls e f =
       record {
         literals = subst (Assumable g) (sym f) literals-fit;
-        solve-room = λ h. omega (arith, room-here, cost-solve (g .sizes .vars) s at (sym e ∙ h));
-        clause-room = λ h. omega (arith, room-here, cost-clause (g .sizes .vars) s at (λ q. h (e ∙ q)));
+        room = omega (arith, room-here, ap (λ (k : ℕ). cost k (g .sizes .vars)) e);
       }
 
   abbrev done : Solved
   done = step (config-of g) (record-at s at) (solver-at g x w acts)
 
-  short : length (done .answer) ≤ cost-at (g .sizes .vars) s at
+  short : length (done .answer) ≤ cost (kind-at s at) (g .sizes .vars)
   short = step-short l s at here (solver-at g x w acts) (k .between .idle)
 
   -- the cells pasted at o
@@ -246,7 +234,7 @@ module _ (g : Config) (l : Limited (config-of g)) (s out₀ : List ℕ) (x : sea
             ∙ k .written;
         rest = left out′ (a .out);
         size = sized out′ (a .out);
-        room = omega (arith, k .room, needed-step (g .sizes .vars) s at inside, short);
+        room = omega (arith, k .room, needed, short);
       })
 
 -- no record is left

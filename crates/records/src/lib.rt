@@ -41,6 +41,14 @@ fn config(script: &[u32]) -> Config
     }
 }
 
+// The work cells that the run asks for.
+fn work_cells(script: &[u32]) -> usize
+    requires { ⌜ header-cells ≤ length (now script) ⌝ }
+    ensures { λ r. ⌜ r ≡ work-needed (header (now (script .entry))) ⌝ }
+{
+    script::work_len(script[0], script[1], script[2]) as usize
+}
+
 // A record of this kind, with these literals and a solve's budget; its answer goes to out, from o on.
 fn record(
     g: Config,
@@ -58,7 +66,7 @@ fn record(
     requires { ⌜ Fits g kind (now part) o (length (now out)) ⌝ }
     ensures { λ r. ⌜ Answered g (step (config-of g) (record-of kind (now (part .entry)) budget) (solver-at g x (now (work .entry)) (now (act .entry))) .solver) (step (config-of g) (record-of kind (now (part .entry)) budget) (solver-at g x (now (work .entry)) (now (act .entry))) .answer) (now (out .entry)) o r (now (work .exit)) (now (act .exit)) (now (out .exit)) ⌝ }
 {
-    if kind == 2 {
+    if kind == script::SOLVE {
         return answer::solve(g, x, work, act, part, budget, out, o);
     }
     answer::clause(g, x, work, act, part, out, o)
@@ -75,7 +83,7 @@ fn records(g: Config, script: &[u32], work: &mut [u32], act: &mut [f64], out: &m
         head: head,
         inc: inc,
     };
-    let mut at: usize = 6;
+    let mut at: usize = script::HEADER_CELLS;
     let mut o: usize = 0;
     while at < script.len() {
         let seen = reader::read(script, at);
@@ -116,6 +124,6 @@ pub fn run_accepted(
     let g = config(script);
     let d = g.sizes;
     let n = d.vars;
-    let need = 32 * n + 8 * d.room + d.lit_room + 64;
+    let need = work_cells(script);
     run_in(g, script, &mut work[0..need], &mut activities[0..n], out)
 }

@@ -65,10 +65,13 @@ module _ (s : List ℕ) where
 
 -- ---- the slices
 
+pub header-work : (s : List ℕ) → work-needed (sized (getD s 0 0) (getD s 1 0) (getD s 2 0)) ≡ work-needed (header s)
+unfolding header work-needed
+header-work s = refl
+
 module _ (s : List ℕ) (work activities need : ℕ) (e : need ≡ work-needed (sized (getD s 0 0) (getD s 1 0) (getD s 2 0))) where
   work-of-header : need ≡ work-needed (header s)
-  unfolding header work-needed
-  work-of-header = e
+  work-of-header = e ∙ header-work s
 
   pub slice-work : work < need → Judged (Refused 5 need) (slice-rows (header s) work activities)
   unfolding slice-rows

@@ -119,7 +119,7 @@ fn cost(kind: u32, v: usize) -> u64
 
 // The kind of the record that begins at this cell.
 pub fn kind(script: &[u32], at: usize) -> u32
-    requires { ⌜ at < length (now script) ⌝ }
+    requires { ⌜ RecordAt (now script) at ⌝ }
     ensures { λ r. ⌜ r ≡ kind-at (now (script .entry)) at ⌝ }
 {
     script[at]
@@ -130,7 +130,7 @@ fn first(script: &[u32], at: usize) -> usize
     requires { ⌜ first-at (now script) at ≤ length (now script) ⌝ }
     ensures { λ r. ⌜ r ≡ first-at (now (script .entry)) at ⌝ }
 {
-    at + 2 + lead(kind(script, at))
+    at + 2 + lead(script[at])
 }
 
 // How many literals it has.
@@ -243,7 +243,7 @@ fn judge_kind(script: &[u32], at: usize) -> Judgement
     ensures { λ r. ⌜ Judged r (kind-rows (now (script .entry)) at) ⌝ }
 {
     let end = script.len();
-    let kind = kind(script, at);
+    let kind = script[at];
     if !known(kind) {
         return Judgement::Refused {
             number: 7,
@@ -265,7 +265,7 @@ fn judge_count(script: &[u32], at: usize, v: usize) -> Judgement
     requires { ⌜ v ≤ max-variables ⌝ }
     ensures { λ r. ⌜ Judged r (count-rows v (now (script .entry)) at) ⌝ }
 {
-    let kind = kind(script, at);
+    let kind = script[at];
     let first = first(script, at);
     let count = count(script, at);
     if most_count(kind, v) < count {

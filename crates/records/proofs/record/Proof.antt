@@ -1,3 +1,5 @@
+use native.Mathlib.Omega.{arith}
+use Rattle.script.specs.Kinds.{cost-solve, cost-other}
 use borrow.Author.Needs.{needs}
 use Rattle.search.specs.Held.{solver-at}
 use Rattle.records.specs.Recording.{stepped-solve, stepped-clause}
@@ -6,8 +8,9 @@ use Rattle.records.proofs.record.Tie as tie
 
 solve-requires : tie.Need-solve-requires
 solve-requires c κs =
+    let a = c .before .before .before .before .before .before .before .before .args in
     let p = c .before .before .before .before .before .before .before .before .pre in
-    (p .0, (p .1 .0, (p .1 .1 .literals, p .1 .1 .solve-room (c .before .before .before .if1 .taken))))
+    (p .0, (p .1 .0, (p .1 .1 .literals, omega (arith, p .1 .1 .room, cost-solve (a .kind) (c .before .before .before .if1 .taken) (a .g .sizes .vars)))))
 
 same-length : tie.Need-same-length
 same-length c = search needs
@@ -25,8 +28,9 @@ returns c =
 
 clause-requires : tie.Need-clause-requires
 clause-requires c κs =
+    let a = c .before .before .before .before .before .before .before .before .args in
     let p = c .before .before .before .before .before .before .before .before .pre in
-    (p .0, (p .1 .0, (p .1 .1 .literals, p .1 .1 .clause-room (c .before .before .before .if1 .left))))
+    (p .0, (p .1 .0, (p .1 .1 .literals, omega (arith, p .1 .1 .room, cost-other (a .kind) (c .before .before .before .if1 .left) (a .g .sizes .vars)))))
 
 same-length-4 : tie.Need-same-length-4
 same-length-4 c = search needs

@@ -21,7 +21,10 @@ loop-holds : tie.Need-loop-holds Inv-loop μ-loop
 loop-holds c = (c .before .pre .0, omega arith, omega arith)
 
 kind-requires : tie.Need-kind-requires Inv-loop μ-loop
-kind-requires c κs = search needs
+kind-requires c κs =
+    let a = c .before .before .before .args in
+    let l = c .before .loop in
+    readable-here (a .v) (a .script .now) (l .at) (omega arith) (l .inv .0) .whole
 
 cost-requires : tie.Need-cost-requires Inv-loop μ-loop
 cost-requires c κs = search needs

@@ -4,7 +4,8 @@ use mathlib.Core.Bool.{Bool, true, false}
 use mathlib.Core.List.{List, [], _∷_, _++_}
 use lib.ListN.{length, getD, take, drop}
 use lib.Dec.{eqb}
-use Rattle.text.specs.Limits.{solve-kind, header-cells}
+use Rattle.model.specs.Limits.{header-cells}
+use Rattle.model.specs.Script.{solve-kind, trailing}
 use Rattle.text.specs.Bytes.{bytes, blank, newline}
 use Rattle.text.specs.Number.{shown, shown-literal}
 
@@ -67,10 +68,6 @@ printed-record kind line out = elim (eqb kind solve-kind) [ true ↦ printed-sol
 -- the out cells of a record's answer
 unfoldable pub answer-cells : ℕ → List ℕ → ℕ
 answer-cells kind out = elim (eqb kind solve-kind) [ true ↦ 3 + getD out 2 0 | false ↦ 1 ]
-
--- the cells of a record behind its literals: a solve's budget
-unfoldable pub trailing : ℕ → ℕ
-trailing kind = elim (eqb kind solve-kind) [ true ↦ 1 | false ↦ 0 ]
 
 -- the first cells of the records that stand behind `skip` cells
 unfoldable pub kinds : ℕ → List ℕ → List ℕ

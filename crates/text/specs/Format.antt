@@ -9,8 +9,9 @@ use mathlib.Core.Bool.{Bool, true, false}
 use mathlib.Core.List.{List, [], _∷_, _++_}
 use lib.ListN.{length, getD, drop}
 use lib.Dec.{eqb, leb, ltb}
+use Rattle.model.specs.Script.{clause-kind, solve-kind}
 use Rattle.text.specs.Limits as Limits
-use Rattle.text.specs.Limits.{max-bytes, max-vars, first-record, bad-key, bad-number, too-large, clause-kind, solve-kind}
+use Rattle.text.specs.Limits.{max-bytes, max-vars, first-record, bad-key, bad-number, too-large}
 use Rattle.text.specs.Bytes.{bytes}
 use Rattle.text.specs.Split.{lines, words, starts}
 use Rattle.text.specs.Number.{decimal, literal}

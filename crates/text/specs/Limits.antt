@@ -27,10 +27,6 @@ literals = 4096
 abbrev pub first-record : ℕ
 first-record = 5
 
--- the cells of a script before its records
-abbrev pub header-cells : ℕ
-header-cells = 6
-
 -- the refusals: a wrong, missing or misplaced key; a bad number; too large
 abbrev pub bad-key : ℕ
 bad-key = 13
@@ -40,10 +36,3 @@ bad-number = 14
 
 abbrev pub too-large : ℕ
 too-large = 15
-
--- a record's first cell
-abbrev pub clause-kind : ℕ
-clause-kind = 1
-
-abbrev pub solve-kind : ℕ
-solve-kind = 2

@@ -8,6 +8,8 @@ use native.Mathlib.Nat.{pow-suc}
 use native.Mathlib.Decide.{decLt, ℕ-discrete}
 use lib.ListN.{length, getD, take, drop, length-append, length-drop, length-take, List·getD-eq-default}
 use lib.Seq.{getD-drop, getD-take}
+use Rattle.model.specs.Limits.{header-cells}
+use Rattle.model.specs.Script.{trailing}
 use Rattle.text.specs.Bytes.{bytes, newline}
 use Rattle.text.specs.Limits.{max-number, max-cells, max-bytes}
 use Rattle.text.specs.Number.{shown, shown-literal}
@@ -24,7 +26,6 @@ use Rattle.text.specs.Answers.{
   printed-clause,
   printed-record,
   answer-cells,
-  trailing,
   kinds,
   printed-records,
   printed,
@@ -186,7 +187,7 @@ kinds-length (suc skip) (x ∷ rest) = omega (arith, kinds-length skip rest)
 pub printed-length : (script lines out : List ℕ) → Small lines → Small out → length script ≤ max-cells → length out ≤ max-cells → length (printed script lines out) ≤ max-bytes
 unfolding printed
 printed-length script lines out sl s h k =
-    omega (arith, records-length (kinds 6 script) lines out sl s (omega arith), kinds-length 6 script)
+    omega (arith, records-length (kinds header-cells script) lines out sl s (omega arith), kinds-length header-cells script)
 
 -- a number of 64 bits has 20 digits at most
 pub refusal-length : (number place : ℕ) → number < 10 ^ 20 → place < 10 ^ 20 → length (printed-refusal number place) ≤ max-bytes

@@ -11,6 +11,8 @@ use lib.ListN.{length, getD, take, drop, length-drop, length-take, drop-of-lengt
 use lib.Seq.{drop-cons, drop-drop, getD-drop, take-all}
 use lib.Dec.{eqb}
 use borrow.Author.Tests.{eq-eqb, ne-eqb}
+use Rattle.model.specs.Limits.{header-cells}
+use Rattle.model.specs.Script.{solve-kind, limits, trailing}
 use Rattle.text.specs.Bytes.{bytes}
 use Rattle.text.specs.Number.{shown, shown-literal}
 use Rattle.text.specs.Answers.{
@@ -25,7 +27,6 @@ use Rattle.text.specs.Answers.{
   printed-clause,
   printed-record,
   answer-cells,
-  trailing,
   kinds,
   printed-records,
   printed,
@@ -143,29 +144,29 @@ pub clause-silent : (line answer : ℕ) → (answer ≡ 2 → ⊥) → printed-c
 unfolding printed-clause
 clause-silent line answer e = rw (printed-clause, ne-eqb answer 2 e)
 
-pub record-solve : (kind line : ℕ) (out : List ℕ) → kind ≡ 2 → printed-record kind line out ≡ printed-solve out
+pub record-solve : (kind line : ℕ) (out : List ℕ) → kind ≡ solve-kind → printed-record kind line out ≡ printed-solve out
 unfolding printed-record
-record-solve kind line out e = rw (printed-record, eq-eqb kind 2 e)
+record-solve kind line out e = rw (printed-record, eq-eqb kind solve-kind e)
 
-pub record-clause : (kind line : ℕ) (out : List ℕ) → (kind ≡ 2 → ⊥) → printed-record kind line out ≡ printed-clause line (getD out 0 0)
+pub record-clause : (kind line : ℕ) (out : List ℕ) → (kind ≡ solve-kind → ⊥) → printed-record kind line out ≡ printed-clause line (getD out 0 0)
 unfolding printed-record
-record-clause kind line out e = rw (printed-record, ne-eqb kind 2 e)
+record-clause kind line out e = rw (printed-record, ne-eqb kind solve-kind e)
 
-pub cells-solve : (kind : ℕ) (out : List ℕ) → kind ≡ 2 → answer-cells kind out ≡ 3 + getD out 2 0
+pub cells-solve : (kind : ℕ) (out : List ℕ) → kind ≡ solve-kind → answer-cells kind out ≡ 3 + getD out 2 0
 unfolding answer-cells
-cells-solve kind out e = rw (answer-cells, eq-eqb kind 2 e)
+cells-solve kind out e = rw (answer-cells, eq-eqb kind solve-kind e)
 
-pub cells-clause : (kind : ℕ) (out : List ℕ) → (kind ≡ 2 → ⊥) → answer-cells kind out ≡ 1
+pub cells-clause : (kind : ℕ) (out : List ℕ) → (kind ≡ solve-kind → ⊥) → answer-cells kind out ≡ 1
 unfolding answer-cells
-cells-clause kind out e = rw (answer-cells, ne-eqb kind 2 e)
+cells-clause kind out e = rw (answer-cells, ne-eqb kind solve-kind e)
 
-pub trailing-solve : (kind : ℕ) → kind ≡ 2 → trailing kind ≡ 1
-unfolding trailing
-trailing-solve kind e = rw (trailing, eq-eqb kind 2 e)
+pub trailing-solve : (kind : ℕ) → kind ≡ solve-kind → trailing kind ≡ 1
+unfolding trailing limits
+trailing-solve kind e = rw e
 
-pub trailing-clause : (kind : ℕ) → (kind ≡ 2 → ⊥) → trailing kind ≡ 0
-unfolding trailing
-trailing-clause kind e = rw (trailing, ne-eqb kind 2 e)
+pub trailing-clause : (kind : ℕ) → (kind ≡ solve-kind → ⊥) → trailing kind ≡ 0
+unfolding trailing limits
+trailing-clause kind e = rw (ne-eqb kind solve-kind e, limits)
 
 -- ---- all records
 
@@ -212,9 +213,9 @@ pub records-end : (script lines out : List ℕ) (p i q : ℕ) → length script 
 unfolding printed-records
 records-end script lines out p i q h = rw (kinds-end script p h)
 
-pub from-start : (script lines out : List ℕ) → from-place script lines out 6 0 0 ≡ printed script lines out
+pub from-start : (script lines out : List ℕ) → from-place script lines out header-cells 0 0 ≡ printed script lines out
 unfolding printed
-from-start script lines out = ap (λ (ks : List ℕ). printed-records ks lines out) (sym (kinds-skip 6 script))
+from-start script lines out = ap (λ (ks : List ℕ). printed-records ks lines out) (sym (kinds-skip header-cells script))
 
 pub left-record : {s : List ℕ} {at : ℕ} {first : List ℕ} {from : ℕ} {all s′ : List ℕ} {r : ℕ} (script lines out rest : List ℕ) (p i q p′ q′ kind line : ℕ)
     → Left s at (from-place script lines out p i q) first from all → Written s at (printed-record kind line rest) s′ r

@@ -13,7 +13,8 @@ ghost use Rattle.text.specs.PutLaws.{Space, field-of};
 ghost use Rattle.text.specs.ReadLaws.{Read};
 ghost use Rattle.text.specs.Limits.{max-cells};
 ghost use Rattle.text.specs.WriteLaws.{Written};
-ghost use Rattle.text.specs.Answers.{numbered, printed-refusal, item, spaced, listed, verdict, body-key, body, printed-solve, printed-clause, printed-record, answer-cells, trailing, printed};
+ghost use Rattle.model.specs.Script.{trailing};
+ghost use Rattle.text.specs.Answers.{numbered, printed-refusal, item, spaced, listed, verdict, body-key, body, printed-solve, printed-clause, printed-record, answer-cells, printed};
 
 // A word read as a number or a literal.
 pub enum Number {

@@ -205,58 +205,57 @@ fn ran(lent: &mut Lent, script: &Script) -> Result<(Vec<u32>, bool), String> {
     }
 }
 
-/// Looks at each answer by itself: models, final clauses, and the verdict that is known.
+/// An answer by itself: a model makes the clauses and the assumptions true, a final clause has negated assumptions alone.
+fn sound(clauses: &[&Vec<u32>], assumed: &[u32], answer: u32, body: &[u32]) -> Result<(), String> {
+    let holds = |l: &u32| body[*l as usize / 2] == l % 2;
+    if answer == 0 && !(clauses.iter().all(|clause| clause.iter().any(holds)) && assumed.iter().all(holds)) {
+        return Err("no model".into());
+    }
+    if answer == 1 && !body.iter().all(|l| assumed.contains(&(l ^ 1))) {
+        return Err("the final clause has another literal".into());
+    }
+    Ok(())
+}
+
+/// A verdict against the answer that the file comes with.
+fn as_known(known: Known, verdict: bool, sums: &mut Sums) -> Result<(), String> {
+    if known == Known::Nothing {
+        return Ok(());
+    }
+    sums.verdicts += 1;
+    (verdict == (known == Known::True)).then_some(()).ok_or_else(|| format!("the file says {known:?}"))
+}
+
+/// Each answer by itself, and the verdicts that are known: of a formula alone, each solve without assumptions once all clauses are taken; of a file with
+/// solves of its own, that one of them is TRUE.
 fn looked_at(formula: &Formula, script: &Script, out: &[u32], sums: &mut Sums) -> Result<(), String> {
-    let mut clauses: Vec<&Vec<u32>> = vec![];
-    let clause_count = script.records.iter().filter(|r| matches!(r, Clause(_))).count();
-    let (mut at, mut conflicts, mut seen) = (0, 0, 0);
-    let own: Vec<bool> = script.records.iter().enumerate().map(|(i, _)| formula.solves && i < formula.records.len()).collect();
-    let mut some_true = None;
+    let all = script.records.iter().filter(|record| matches!(record, Clause(_))).count();
+    let (mut clauses, mut at, mut conflicts) = (vec![], 0, 0);
+    let (mut decided, mut some_true) = (false, false);
     for (i, record) in script.records.iter().enumerate() {
-        match record {
-            Clause(literals) => {
-                seen += 1;
-                if out[at] != 2 {
-                    clauses.push(literals);
-                }
-                at += 1;
+        let Solve(assumed, _) = record else {
+            if out[at] != 2 {
+                clauses.push(shapes::lits_of(record));
             }
-            Solve(assumed, _) => {
-                let (answer, body) = (out[at], &out[at + 3..at + 3 + out[at + 2] as usize]);
-                sums.solves += 1;
-                sums.answers[answer as usize] += 1;
-                conflicts += out[at + 1] as u64;
-                at += 3 + body.len();
-                let holds = |l: &u32| body[*l as usize / 2] == l % 2;
-                if answer == 0 {
-                    sums.models += 1;
-                    if !clauses.iter().all(|c| c.iter().any(holds)) || !assumed.iter().all(holds) {
-                        return Err(format!("record {i}: no model"));
-                    }
-                }
-                if answer == 1 && !body.iter().all(|l| assumed.contains(&(l ^ 1))) {
-                    return Err(format!("record {i}: the final clause has another literal"));
-                }
-                // a file with solves of its own: its answer is TRUE if one of them is
-                if own[i] && answer != 2 {
-                    some_true = Some(some_true.unwrap_or(false) | (answer == 0));
-                }
-                let whole = assumed.is_empty() && seen == clause_count && clauses.len() == clause_count && !formula.solves;
-                let verdict = if whole && answer != 2 { Some(answer == 0) } else { None };
-                if let Some(verdict) = verdict.filter(|_| formula.known != Known::Nothing) {
-                    sums.verdicts += 1;
-                    if verdict != (formula.known == Known::True) {
-                        return Err(format!("record {i}: the file says {:?}", formula.known));
-                    }
-                }
-            }
+            at += 1;
+            continue;
+        };
+        let (answer, body) = (out[at], &out[at + 3..at + 3 + out[at + 2] as usize]);
+        sums.solves += 1;
+        sums.answers[answer as usize] += 1;
+        sums.models += (answer == 0) as u64;
+        conflicts += out[at + 1] as u64;
+        at += 3 + body.len();
+        sound(&clauses, assumed, answer, body).map_err(|wrong| format!("record {i}: {wrong}"))?;
+        if formula.solves && i < formula.records.len() {
+            decided |= answer != 2;
+            some_true |= answer == 0;
+        } else if !formula.solves && assumed.is_empty() && clauses.len() == all && answer != 2 {
+            as_known(formula.known, answer == 0, sums)?;
         }
     }
-    if let Some(verdict) = some_true.filter(|_| formula.known != Known::Nothing) {
-        sums.verdicts += 1;
-        if verdict != (formula.known == Known::True) {
-            return Err(format!("the file says {:?}", formula.known));
-        }
+    if decided {
+        as_known(formula.known, some_true, sums)?;
     }
     sums.conflicts += conflicts;
     sums.longest = sums.longest.max(conflicts);

@@ -6,8 +6,8 @@ use mathlib.Core.Path.{_≡_, refl, sym, ap, _∙_, subst}
 use mathlib.Core.Logic.{_≢_}
 use mathlib.Core.Bool.{Bool, true, false, not, _&&_, true≢false}
 use mathlib.Core.List.{List, [], _∷_, _++_, List·Memᴰ·head as here}
-use lib.ListN.{length, getD, set, take, drop, length-append, length-drop, drop-of-length-le}
-use lib.Seq.{sets, slice, take-all, drop-cons, drop-drop, getD-drop}
+use lib.ListN.{length, getD, set, drop, length-append, length-drop, drop-of-length-le}
+use lib.Seq.{sets, slice, drop-cons, drop-drop, getD-drop}
 use lib.Dec.{ltb, eqb}
 use lib.Ieee.{Float}
 use borrow.Author.Tests.{ltb-true, eq-eqb, ne-eqb, lt-ltb, le-ltb}
@@ -342,9 +342,6 @@ module _ (d : Sizes) (h : Header) (w₀ : List ℕ) (acts₀ : List Float) (r₀
       subst (λ k. Resolving d h (whole d h w₀) 1 w acts r k) e (j .made)
 
 -- ---- the same over clause c, as the code asks for it
-
-pub part-all : (l : List ℕ) (from : ℕ) → take (length l - from) (drop from l) ≡ drop from l
-part-all l from = take-all (length l - from) (drop from l) (rw length-drop (omega arith))
 
 module _ (d : Sizes) (h : Header) (w₀ : List ℕ) (acts₀ : List Float) (r₀ : Joined) (c from i : ℕ) (w : List ℕ) (acts : List Float) (r : Joined) (p : Rep d h w₀)
     (j : Joining d h (whole d h w₀) acts₀ r₀ (drop from (clause-of (whole d h w₀ .clauses) c)) i w acts r)

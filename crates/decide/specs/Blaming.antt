@@ -31,6 +31,7 @@ use Rattle.watch.specs.Meaning.{as-watches}
 use Rattle.state.specs.declared.Sizes.{Sizes}
 use Rattle.state.specs.declared.Header.{Header}
 use Rattle.state.specs.declared.Config.{Config}
+use Rattle.state.specs.Reasons.{Reason, lits-from}
 use Rattle.state.specs.View.{Whole, whole, Rep, Holds, with-scratch, with-final}
 use Rattle.state.specs.Laws.{with-final-head}
 use Rattle.state.specs.MarksLaws.{members, Insertable, final-counted, final-same}
@@ -452,8 +453,9 @@ module _ (d : Sizes) (h : Header) (w : List ℕ) (l : ℕ) (p : Rep d h w) (a : 
     -- a literal with a reason
     module _ (ne : reason-lit (vars-of y) l ≢ no-reason) where
       pub mark-asks : (c : ℕ) → c ≡ reason-lit (vars-of y) l
-          → Rep d h w × ((c < length (y .clauses .clauses)) × (LitsOf (d .vars) (clause-of (y .clauses) c) × (1 ≤ length (clause-of (y .clauses) c))))
-      mark-asks c e = rw e (p, (a .stored ne, (a .lits ne, a .some ne)))
+          → Rep d h w × Reason (d .vars) (y .clauses) c
+      mark-asks c e =
+          rw e (p, record { stored = a .stored ne; some = a .some ne; lits = lits-from (d .vars) (clause-of (y .clauses) (reason-lit (vars-of y) l)) 1 (a .lits ne) })
 
       pub pass-implied : (w₁ w₂ : List ℕ)
           → Holds d h w₁ (remarked y (mark (vars-of y) (drop 1 (clause-of (y .clauses) (reason-lit (vars-of y) l))) (y .scratch .marks)))

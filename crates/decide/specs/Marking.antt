@@ -1,12 +1,12 @@
 -- The literals of a reason above level 0 are marked, one by one.
-use Prim.Native.Nat.{ℕ, suc, _+_, _≤_, _<_}
+use Prim.Native.Nat.{ℕ, suc, _+_, _-_, _≤_, _<_}
 use native.Mathlib.Omega.{arith}
 use native.Mathlib.Numerals.{add-one}
 use mathlib.Core.Path.{_≡_, refl, sym, ap, subst, _∙_}
 use mathlib.Core.Logic.{_≢_}
 use mathlib.Core.Bool.{true, false}
 use mathlib.Core.List.{List, [], _∷_}
-use lib.ListN.{length, getD, drop, set, drop-of-length-le, length-drop}
+use lib.ListN.{length, getD, take, drop, set, drop-of-length-le, length-drop}
 use lib.Seq.{drop-cons, drop-drop, getD-drop}
 use lib.Dec.{eqb}
 use borrow.Author.Tests.{eq-eqb, ne-eqb, eqb-true, eqb-false}
@@ -15,10 +15,10 @@ use Rattle.model.specs.State.{VarState, level-lit}
 use Rattle.model.specs.Final.{mark}
 use Rattle.lawbase.specs.Basics.{split, same?, on?}
 use Rattle.scratch.specs.View.{with-marks, marked}
-use Rattle.store.specs.View.{clause-of}
-use Rattle.trail.specs.View.{LitsOf}
+use Rattle.store.specs.View.{Clauses, clause-of}
 use Rattle.state.specs.declared.Sizes.{Sizes}
 use Rattle.state.specs.declared.Header.{Header}
+use Rattle.state.specs.Reasons.{others, Reason, part-all}
 use Rattle.state.specs.View.{Whole, whole, Rep, Holds, with-scratch}
 
 -- ---- the next literal to mark
@@ -101,14 +101,17 @@ module _ (vs : VarState) where
 abbrev pub remarked : Whole → List ℕ → Whole
 remarked x m = with-scratch x (with-marks (x .scratch) m)
 
--- the literals of clause c from its second one on, as far as place i, are marked
+-- what is passed of the clause that the store hands out
+pub part-passed : (x : Clauses) (c : ℕ) (r : List ℕ) → r ≡ clause-of x c → take (length r - 1) (drop 1 r) ≡ others x c
+part-passed x c r e = part-all r 1 ∙ ap (drop 1) e
+
+-- of the literals of clause c from its second one on, the first i are marked
 pub record Marking (d : Sizes) (h : Header) (x : Whole) (c i : ℕ) (w : List ℕ) : Type 0 where
   pub seen : List ℕ
   pub holds : Holds d h w (remarked x seen)
-  pub rest : mark (x .assignment .vars) (drop i (clause-of (x .clauses) c)) seen ≡ mark (x .assignment .vars) (drop 1 (clause-of (x .clauses) c)) (x .scratch .marks)
-  pub from : 1 ≤ i
-  pub inside : i ≤ length (clause-of (x .clauses) c)
-  pub above : i < length (clause-of (x .clauses) c) → 0 < level-lit (x .assignment .vars) (getD (clause-of (x .clauses) c) i 0)
+  pub rest : mark (x .assignment .vars) (drop i (others (x .clauses) c)) seen ≡ mark (x .assignment .vars) (others (x .clauses) c) (x .scratch .marks)
+  pub inside : i ≤ length (others (x .clauses) c)
+  pub above : i < length (others (x .clauses) c) → 0 < level-lit (x .assignment .vars) (getD (others (x .clauses) c) i 0)
 
 module _ (d : Sizes) (h : Header) (w₀ : List ℕ) (c : ℕ) where
   abbrev x₀ : Whole
@@ -118,57 +121,62 @@ module _ (d : Sizes) (h : Header) (w₀ : List ℕ) (c : ℕ) where
   vs₀ = x₀ .assignment .vars
 
   abbrev lits : List ℕ
-  lits = clause-of (x₀ .clauses) c
+  lits = others (x₀ .clauses) c
 
-  pub marking-starts : (i : ℕ) → Rep d h w₀ → 1 ≤ length lits → i ≡ 1 + next-above vs₀ (drop 1 lits) → Marking d h x₀ c i w₀
-  marking-starts i r b e =
-      let s = reached vs₀ lits 1 i b e in
+  pub marking-starts : (i : ℕ) → Rep d h w₀ → i ≡ 0 + next-above vs₀ (drop 0 lits) → Marking d h x₀ c i w₀
+  marking-starts i r e =
+      let s = reached vs₀ lits 0 i (omega arith) e in
       record {
         seen = x₀ .scratch .marks;
         holds = record { rep = r; whole = refl };
         rest = sym (s .same (x₀ .scratch .marks));
-        from = s .from;
         inside = s .inside;
         above = s .above;
       }
 
-  module _ (i : ℕ) (w : List ℕ) (k : Marking d h x₀ c i w) where
-    -- what the next mark asks
-    pub marking-asks : LitsOf (d .vars) lits → i < length lits
-        → Rep d h w × (LitsOf (d .vars) (clause-of (whole d h w .clauses) c) × (i < length (clause-of (whole d h w .clauses) c)))
-    marking-asks l g = (k .holds .rep, (rw (k .holds .whole) l, rw (k .holds .whole) g))
+  module _ (i : ℕ) (w : List ℕ) (k : Marking d h x₀ c i w) (g : 1 + i < length (clause-of (x₀ .clauses) c)) where
+    here : i < length lits
+    here = rw length-drop (omega arith)
 
-    module _ (w′ : List ℕ) (g : i < length lits) (m : Holds d h w′ (with-scratch (whole d h w) (marked (whole d h w .scratch) (var (getD (clause-of (whole d h w .clauses) c) i 0)) 1))) where
+    -- what the next mark asks
+    pub marking-asks : Reason (d .vars) (x₀ .clauses) c
+        → Rep d h w × ((1 + i < length (clause-of (whole d h w .clauses) c)) × (var (getD (clause-of (whole d h w .clauses) c) (1 + i) 0) < d .vars))
+    marking-asks l =
+        let f : var (getD (clause-of (x₀ .clauses) c) (1 + i) 0) < d .vars = rw (getD-drop 1 (clause-of (x₀ .clauses) c) i 0) at (l .lits i here) in
+        (k .holds .rep, (rw (k .holds .whole) g, rw (k .holds .whole) f))
+
+    module _ (w′ : List ℕ) (m : Holds d h w′ (with-scratch (whole d h w) (marked (whole d h w .scratch) (var (getD (clause-of (whole d h w .clauses) c) (1 + i) 0)) 1))) where
       now-holds : Holds d h w′ (remarked x₀ (set (k .seen) (var (getD lits i 0)) 1))
-      now-holds = rw (k .holds .whole) at m
+      now-holds = rw (getD-drop 1 (clause-of (x₀ .clauses) c) i 0) (rw (k .holds .whole) at m)
 
       -- what the look for the one after it asks
-      pub marked-asks : c < length (x₀ .clauses .clauses) → LitsOf (d .vars) lits
-          → Rep d h w′ × ((c < length (whole d h w′ .clauses .clauses)) × (LitsOf (d .vars) (clause-of (whole d h w′ .clauses) c) × (i + 1 ≤ length (clause-of (whole d h w′ .clauses) c))))
-      marked-asks b l =
-          let f : i + 1 ≤ length lits = omega arith in
-          (now-holds .rep, (rw (now-holds .whole) b, (rw (now-holds .whole) l, rw (now-holds .whole) f)))
+      pub marked-asks : Reason (d .vars) (x₀ .clauses) c
+          → Rep d h w′ × (Reason (d .vars) (whole d h w′ .clauses) c × (1 + (i + 1) ≤ length (clause-of (whole d h w′ .clauses) c)))
+      marked-asks l =
+          let f : 1 + (i + 1) ≤ length (clause-of (x₀ .clauses) c) = omega arith in
+          (now-holds .rep, (rw (now-holds .whole) l, rw (now-holds .whole) f))
 
-      pub marking-turns : (i′ : ℕ) → i′ ≡ (i + 1) + next-above (whole d h w′ .assignment .vars) (drop (i + 1) (clause-of (whole d h w′ .clauses) c))
+      pub marking-turns : (i′ : ℕ) → i′ ≡ (i + 1) + next-above (whole d h w′ .assignment .vars) (drop (i + 1) (others (whole d h w′ .clauses) c))
           → Marking d h x₀ c i′ w′
       marking-turns i′ e =
-          let s = reached vs₀ lits (i + 1) i′ (omega arith) (rw (now-holds .whole) at e) in
+          let s = reached vs₀ lits (i + 1) i′ (omega (arith, here)) (rw (now-holds .whole) at e) in
           let v = set (k .seen) (var (getD lits i 0)) 1 in
           record {
             seen = v;
             holds = now-holds;
             rest = sym (s .same v)
                 ∙ ap (λ j. mark vs₀ (drop j lits) v) (add-one i)
-                ∙ sym (mark-high vs₀ (getD lits i 0) (drop (suc i) lits) (k .seen) (k .above g))
-                ∙ ap (λ l. mark vs₀ l (k .seen)) (sym (drop-cons lits i 0 g))
+                ∙ sym (mark-high vs₀ (getD lits i 0) (drop (suc i) lits) (k .seen) (k .above here))
+                ∙ ap (λ l. mark vs₀ l (k .seen)) (sym (drop-cons lits i 0 here))
                 ∙ k .rest;
-            from = omega (arith, s .from, k .from);
             inside = s .inside;
             above = s .above;
           }
 
-    pub marking-ends : length lits ≤ i → Holds d h w (remarked x₀ (mark vs₀ (drop 1 lits) (x₀ .scratch .marks)))
-    marking-ends g =
-        subst (λ m. Holds d h w (remarked x₀ m))
-        (sym (mark-none vs₀ (k .seen)) ∙ ap (λ l. mark vs₀ l (k .seen)) (sym (drop-of-length-le lits g)) ∙ k .rest)
-        (k .holds)
+  pub marking-ends : (i : ℕ) (w : List ℕ) → Marking d h x₀ c i w → length (clause-of (x₀ .clauses) c) - 1 ≤ i
+      → Holds d h w (remarked x₀ (mark vs₀ lits (x₀ .scratch .marks)))
+  marking-ends i w k g =
+      let all : length lits ≤ i = rw length-drop g in
+      subst (λ m. Holds d h w (remarked x₀ m))
+      (sym (mark-none vs₀ (k .seen)) ∙ ap (λ l. mark vs₀ l (k .seen)) (sym (drop-of-length-le lits all)) ∙ k .rest)
+      (k .holds)

@@ -13,6 +13,7 @@ ghost use Rattle.assign.specs.Pick.{Free};
 ghost use Rattle.trail.specs.View.{LitsOf};
 ghost use Rattle.scratch.specs.View.{marked};
 ghost use Rattle.store.specs.View.{clause-of};
+ghost use Rattle.state.specs.Reasons.{others, Reason};
 ghost use Rattle.state.specs.View.{Rep, Holds, whole, with-scratch};
 ghost use Rattle.decide.specs.Marking.{next-above, remarked};
 ghost use Rattle.state.specs.Still.{state-at, Still, Has};
@@ -49,22 +50,22 @@ fn next_above<'a>(d: Sizes, h: Header, work: &'a [u32], part: &'a [u32], i: usiz
     k
 }
 
-// The same for clause c.
+// The same for clause c: its part from the second literal on is passed.
 fn next_in(d: Sizes, h: Header, work: &[u32], c: usize, i: usize) -> usize
     requires { ⌜ Rep d h (now work) ⌝ }
-    requires { ⌜ c < length (whole d h (now work) .clauses .clauses) ⌝ }
-    requires { ⌜ LitsOf (d .vars) (clause-of (whole d h (now work) .clauses) c) ⌝ }
-    requires { ⌜ i ≤ length (clause-of (whole d h (now work) .clauses) c) ⌝ }
-    ensures { λ r. ⌜ r ≡ i + next-above (whole d h (now (work .entry)) .assignment .vars) (drop i (clause-of (whole d h (now (work .entry)) .clauses) c)) ⌝ }
+    requires { ⌜ Reason (d .vars) (whole d h (now work) .clauses) c ⌝ }
+    requires { ⌜ 1 + i ≤ length (clause-of (whole d h (now work) .clauses) c) ⌝ }
+    ensures { λ r. ⌜ r ≡ i + next-above (whole d h (now (work .entry)) .assignment .vars) (drop i (others (whole d h (now (work .entry)) .clauses) c)) ⌝ }
 {
-    next_above(d, h, work, state::clauses::clause(d, h, work, c), i)
+    let lits = state::clauses::clause(d, h, work, c);
+    next_above(d, h, work, &lits[1..], i)
 }
 
 // Literal i of clause c is marked.
 fn mark_at(d: Sizes, h: Header, work: &mut [u32], c: usize, i: usize)
     requires { ⌜ Rep d h (now work) ⌝ }
-    requires { ⌜ LitsOf (d .vars) (clause-of (whole d h (now work) .clauses) c) ⌝ }
     requires { ⌜ i < length (clause-of (whole d h (now work) .clauses) c) ⌝ }
+    requires { ⌜ var (getD (clause-of (whole d h (now work) .clauses) c) i 0) < d .vars ⌝ }
     ensures { λ _. ⌜ Holds d h (now (work .exit)) (with-scratch (whole d h (now (work .entry)))
         (marked (whole d h (now (work .entry)) .scratch) (var (getD (clause-of (whole d h (now (work .entry)) .clauses) c) i 0)) 1)) ⌝ }
 {
@@ -75,16 +76,14 @@ fn mark_at(d: Sizes, h: Header, work: &mut [u32], c: usize, i: usize)
 // The literals of clause c from its second one on are marked, where they are above level 0.
 fn mark_rest(d: Sizes, h: Header, work: &mut [u32], c: usize)
     requires { ⌜ Rep d h (now work) ⌝ }
-    requires { ⌜ c < length (whole d h (now work) .clauses .clauses) ⌝ }
-    requires { ⌜ LitsOf (d .vars) (clause-of (whole d h (now work) .clauses) c) ⌝ }
-    requires { ⌜ 1 ≤ length (clause-of (whole d h (now work) .clauses) c) ⌝ }
+    requires { ⌜ Reason (d .vars) (whole d h (now work) .clauses) c ⌝ }
     ensures { λ _. ⌜ Holds d h (now (work .exit)) (remarked (whole d h (now (work .entry)))
-        (mark (whole d h (now (work .entry)) .assignment .vars) (drop 1 (clause-of (whole d h (now (work .entry)) .clauses) c)) (whole d h (now (work .entry)) .scratch .marks))) ⌝ }
+        (mark (whole d h (now (work .entry)) .assignment .vars) (others (whole d h (now (work .entry)) .clauses) c) (whole d h (now (work .entry)) .scratch .marks))) ⌝ }
 {
-    let n = state::clauses::size(d, h, work, c);
-    let mut i = next_in(d, h, work, c, 1);
+    let n = state::clauses::size(d, h, work, c) - 1;
+    let mut i = next_in(d, h, work, c, 0);
     while i < n {
-        mark_at(d, h, work, c, i);
+        mark_at(d, h, work, c, 1 + i);
         i = next_in(d, h, work, c, i + 1);
     }
 }

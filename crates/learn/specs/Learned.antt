@@ -2,7 +2,7 @@
 use Prim.Native.Nat.{ℕ, suc, _+_, _*_, _≤_, _<_}
 use native.Mathlib.Omega.{arith}
 use mathlib.Core.Path.{_≡_, sym, ap, _∙_, subst}
-use mathlib.Core.List.{List, _∷_}
+use mathlib.Core.List.{List, [], _∷_}
 use lib.ListN.{length, getD, take, drop, replicate}
 use lib.Seq.{sets, slice, length-slice}
 use lib.Ieee.{Float}
@@ -23,6 +23,7 @@ use Rattle.learning.specs.Analyzed.{minimisable}
 use Rattle.activity.specs.Activities.{activity}
 use Rattle.trail.specs.View.{LitsOf}
 use Rattle.scratch.specs.View.{Scratch}
+use Rattle.state.specs.Reasons.{Filled}
 use Rattle.state.specs.View.{Whole, whole, state-of, Rep, with-scratch}
 use Rattle.state.specs.Still.{Idle, Still, Has, state-at, config-of}
 use Rattle.state.specs.declared.Header.{Header}
@@ -95,6 +96,11 @@ module _ (g : Config) (h : Header) (w : List ℕ) (acts : List Float) (inc : Flo
   state-is : state-of h x₀ ≡ state-at g h w
   state-is = ap (state-of h) (u .held .whole)
 
+  filled : Filled (state-at g h w .store .clauses)
+  filled n b =
+      let cs = state-at g h w .store .clauses in
+      omega (arith, s .formed .store .proper (getD cs n []) (getD-in cs n [] b) .two)
+
   -- what minimising asks
   pub ready : Ready (g .sizes) h (whole (g .sizes) h w₀) (r₀ .learnt)
   ready =
@@ -105,6 +111,7 @@ module _ (g : Config) (h : Header) (w : List ℕ) (acts : List Float) (inc : Flo
             subst (λ (y : State). Minimisable (g .sizes .vars) (y .store) (y .vars) (slice 1 (r₀ .learnt) (x₀ .scratch .buffer)) (x₀ .scratch .marks)) (sym state-is)
             (rw (rest-is, seen-is) goes);
         distinct = rw rest-is apart;
+        filled = subst (λ (y : State). Filled (y .store .clauses)) (sym state-is) filled;
       }
 
   module _ (w₁ : List ℕ) (n : ℕ) (m : Reduced g h (whole (g .sizes) h w₀) (r₀ .learnt) w₁ n) where

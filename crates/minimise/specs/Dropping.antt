@@ -26,6 +26,7 @@ use Rattle.minimise.specs.declared.Traced.{Traced}
 use Rattle.minimise.specs.declared.Kept.{Kept}
 use Rattle.minimise.specs.Notes.{Noted, noted-start, noted-none, noted-then, at-in}
 use Rattle.minimise.specs.Tracing.{Beside, beside-start, beside-next, beside-then, scratch-is, Going, Tidy, buffer-length, notes-length}
+use Rattle.state.specs.Reasons.{Filled}
 use Rattle.minimise.specs.Pushing.{assignment-same, clauses-same, watches-same}
 use Rattle.minimise.specs.Redundant.{newest, Traceable, Tries}
 
@@ -138,6 +139,7 @@ pub record Falsified (d : Sizes) (x : Whole) (l : ℕ) : Type 0 where
 
 pub record Judgeable (d : Sizes) (x : Whole) (l t : ℕ) : Type 0 where
   pub entries : Entries (d .vars) (x .clauses .clauses) (x .assignment .vars) (newest x)
+  pub filled : Filled (x .clauses .clauses)
   pub lit : Falsified d x l
   pub tidy : Tidy (d .vars) (x .scratch) 0 t
 
@@ -179,7 +181,7 @@ module _ {d : Sizes} {h : Header} {w : List ℕ} {l t : ℕ} (r : Rep d h w) (p 
       fit = record { falsified = p .lit .set; above = p .lit .above; caused = caused }
 
       pub judged-ask : Traceable d h (whole d h w) l t
-      judged-ask = record { entries = p .entries; fit = fit; seen = p .lit .seen; tidy = p .tidy }
+      judged-ask = record { entries = p .entries; filled = p .filled; fit = fit; seen = p .lit .seen; tidy = p .tidy }
 
       pub judged-tried : {mask : ℕ} {u : List ℕ} {o : Traced} → Tries d h (whole d h w) mask l t u o → Judges d h (whole d h w) mask l t u o
       judged-tried {mask} {u} {o} k = by (o .gone) refl
@@ -277,6 +279,7 @@ module _ {d : Sizes} {h : Header} {x : Whole} {mask i j t q : ℕ} (p : Droppabl
 
 pub record Minimising (d : Sizes) (x : Whole) (n t : ℕ) : Type 0 where
   pub entries : Entries (d .vars) (x .clauses .clauses) (x .assignment .vars) (newest x)
+  pub filled : Filled (x .clauses .clauses)
   pub lits : (k : ℕ) → 1 ≤ k → k < n → Falsified d x (getD (x .scratch .buffer) k 0)
   pub tidy : Tidy (d .vars) (x .scratch) 0 t
   pub some : 1 ≤ n
@@ -331,6 +334,7 @@ module _ {d : Sizes} {h : Header} {x : Whole} {mask n t0 : ℕ} (p : Minimising 
             rw (g .later i (omega arith))
             (record {
               entries = rw (a, clauses-same d h x w (g .beside)) (p .entries);
+              filled = rw (clauses-same d h x w (g .beside)) (p .filled);
               lit = record { set = rw a (f .set); above = rw a (f .above); seen = g .grows (var (getD (x .scratch .buffer) i 0)) (f .seen) };
               tidy = g .tidy;
             });

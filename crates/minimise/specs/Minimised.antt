@@ -19,6 +19,7 @@ use Rattle.state.specs.View.{Whole, whole, Rep, Holds, with-scratch, state-of}
 use Rattle.minimise.specs.declared.Kept.{Kept}
 use Rattle.minimise.specs.Notes.{undo, Noted, noted-then, noted-clause, clause-room}
 use Rattle.minimise.specs.Tracing.{Beside, beside-start, beside-next, beside-then, scratch-is, marks-length, buffer-length, stack-length, notes-length}
+use Rattle.state.specs.Reasons.{Filled}
 use Rattle.minimise.specs.Redundant.{newest, Clearable}
 use Rattle.minimise.specs.Dropping.{slice-get, slice-at, Listed, Copied, Minimising, Shrinks}
 
@@ -28,6 +29,7 @@ pub record Ready (d : Sizes) (h : Header) (x : Whole) (n : ℕ) : Type 0 where
   pub most : n ≤ d .vars
   pub clause : Minimisable (d .vars) (state-of h x .store) (x .assignment .vars) (slice 1 n (x .scratch .buffer)) (x .scratch .marks)
   pub distinct : Distinct (slice 1 n (x .scratch .buffer))
+  pub filled : Filled (x .clauses .clauses)
 
 -- the first r places of the buffer are the UIP and what the definition leaves of the others; no mark is set, and all beside the scratch block is as it was
 pub record Minimised (d : Sizes) (h : Header) (x : Whole) (n : ℕ) (w : List ℕ) (r : ℕ) : Type 0 where
@@ -86,6 +88,7 @@ module _ {d : Sizes} {h : Header} {w : List ℕ} {n : ℕ} (r : Rep d h w) (p : 
         rw (c .holds .whole)
         (record {
           entries = p .clause .assignment .entries;
+          filled = p .filled;
           lits = λ k o b.
               record {
                 set = in-reverse (x .assignment .vars .trail) (p .clause .falsified (getD (x .scratch .buffer) k 0) (at k o b));

@@ -20,6 +20,7 @@ use Rattle.learning.specs.Trace.{then, Fit, Pushed as Grown, push-law, fit-reas
 use Rattle.learning.specs.Turns.{left, push-left, turns-same}
 use Rattle.state.specs.declared.Sizes.{Sizes}
 use Rattle.state.specs.declared.Header.{Header}
+use Rattle.state.specs.Reasons.{others, Filled}
 use Rattle.state.specs.View.{Whole, whole, Rep, Holds, with-scratch, state-of}
 use Rattle.minimise.specs.declared.Pushed.{Pushed}
 use Rattle.minimise.specs.declared.Traced.{Traced}
@@ -82,11 +83,6 @@ pub trace-end : (n : ℕ) (st : Store) (vs : VarState) (mask : ℕ) (m : List �
 unfolding lit-redundant
 trace-end n st vs mask m = refl
 
-behind-in : (ls : List ℕ) (k : ℕ) → 1 ≤ k → k < length ls → getD ls k 0 ∈ drop 1 ls
-behind-in [] k o i = absurd (omega arith)
-behind-in (l ∷ ls) zero o i = absurd (omega arith)
-behind-in (l ∷ ls) (suc k) o i = at-in ls k (omega arith)
-
 -- ---- one literal
 
 -- the trail, newest first
@@ -96,6 +92,7 @@ newest x = reverse (x .assignment .vars .trail)
 -- l can be traced, with t marks noted
 pub record Traceable (d : Sizes) (h : Header) (x : Whole) (l t : ℕ) : Type 0 where
   pub entries : Entries (d .vars) (x .clauses .clauses) (x .assignment .vars) (newest x)
+  pub filled : Filled (x .clauses .clauses)
   pub fit : Fit (x .assignment .vars) (newest x) l
   pub seen : is-seen (x .scratch .marks) l ≡ true
   pub tidy : Tidy (d .vars) (x .scratch) 0 t
@@ -133,6 +130,7 @@ module _ {d : Sizes} {h : Header} {w : List ℕ} {l t : ℕ} (r : Rep d h w) (p 
       rw (k .whole, bottom-is)
       (record {
         entries = p .entries;
+        filled = p .filled;
         fit = p .fit;
         seen = p .seen;
         tidy =
@@ -225,12 +223,18 @@ module _ {d : Sizes} {h : Header} {x : Whole} {mask l t0 : ℕ} (p : Traceable d
       tracks-ask =
           rw (clauses-same d h x w (g .beside), reason-is)
           (record {
-            stored = fit-stored (d .vars) st vs (newest x) (p .entries) q fit-here;
-            range = λ k o i. of-trail (getD (clause-of (x .clauses) (reason-lit vs q)) k 0)
-                (rests (getD (clause-of (x .clauses) (reason-lit vs q)) k 0) (behind-in (clause-of (x .clauses) (reason-lit vs q)) k o i));
+            reason =
+                record {
+                  stored = low;
+                  some = p .filled (reason-lit vs q) low;
+                  lits = λ k i. of-trail (getD (others (x .clauses) (reason-lit vs q)) k 0) (rests (getD (others (x .clauses) (reason-lit vs q)) k 0) (at-in (others (x .clauses) (reason-lit vs q)) k i));
+                };
             tidy = fewer (g .going .tidy);
           })
         where
+          low : reason-lit vs q < length (st .clauses)
+          low = fit-stored (d .vars) st vs (newest x) (p .entries) q fit-here
+
           of-trail : (r : ℕ) → neg r ∈ newest x → var r < d .vars
           of-trail r i = rw var-neg at (var-range (neg r) (d .vars) (in-range (d .vars) (st .clauses) vs (newest x) (p .entries) (neg r) i))
 

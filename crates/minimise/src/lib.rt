@@ -6,10 +6,11 @@ ghost use lib.Seq.{slice};
 ghost use Rattle.model.specs.Lit.{var, abstract-level};
 ghost use Rattle.model.specs.Minimise.{abstract-levels};
 ghost use Rattle.scratch.specs.View.{with-marks};
-ghost use Rattle.store.specs.View.{clause-of};
+ghost use Rattle.trail.specs.View.{LitsOf};
+ghost use Rattle.state.specs.Reasons.{others, Reason};
 ghost use Rattle.state.specs.View.{Rep, Holds, whole, with-scratch};
 ghost use Rattle.minimise.specs.Tracing.{open-lit, traceable, put-in, Next};
-ghost use Rattle.minimise.specs.Pushing.{InRange, Pushable, Pushes};
+ghost use Rattle.minimise.specs.Pushing.{Pushable, Pushes};
 ghost use Rattle.minimise.specs.Notes.{undo};
 ghost use Rattle.minimise.specs.Redundant.{Clearable, Traceable, Tries};
 ghost use Rattle.minimise.specs.Dropping.{Listed, Copied, Judgeable, Judges, Droppable, Drops, Minimising, Shrinks};
@@ -37,8 +38,7 @@ pub struct Pushed {
 // From place i on, the first literal that is above level 0 and not marked.
 fn next_open<'a>(d: Sizes, h: Header, work: &'a [u32], part: &'a [u32], i: usize) -> usize
     requires { ⌜ Rep d h (now work) ⌝ }
-    requires { ⌜ InRange (d .vars) (now part) ⌝ }
-    requires { ⌜ 1 ≤ i ⌝ }
+    requires { ⌜ LitsOf (d .vars) (now part) ⌝ }
     ensures { λ r. ⌜ Next (whole d h (now (work .entry)) .assignment .vars) (whole d h (now (work .entry)) .scratch .marks) (now (part .entry)) i r ⌝ }
 {
     let n = part.len();
@@ -66,15 +66,14 @@ fn is_open(d: Sizes, h: Header, work: &[u32], l: Lit) -> bool
     state::marks::mark(d, h, work, v) != 1
 }
 
-// `next_open` in clause c.
+// `next_open` in clause c: its part from the second literal on is passed.
 fn open_in(d: Sizes, h: Header, work: &[u32], c: usize, i: usize) -> usize
     requires { ⌜ Rep d h (now work) ⌝ }
-    requires { ⌜ (c < length (whole d h (now work) .clauses .clauses)) × InRange (d .vars) (clause-of (whole d h (now work) .clauses) c) ⌝ }
-    requires { ⌜ 1 ≤ i ⌝ }
-    ensures { λ r. ⌜ Next (whole d h (now (work .entry)) .assignment .vars) (whole d h (now (work .entry)) .scratch .marks) (clause-of (whole d h (now (work .entry)) .clauses) c) i r ⌝ }
+    requires { ⌜ Reason (d .vars) (whole d h (now work) .clauses) c ⌝ }
+    ensures { λ r. ⌜ Next (whole d h (now (work .entry)) .assignment .vars) (whole d h (now (work .entry)) .scratch .marks) (others (whole d h (now (work .entry)) .clauses) c) i r ⌝ }
 {
-    let part = state::clauses::clause(d, h, work, c);
-    next_open(d, h, work, part, i)
+    let lits = state::clauses::clause(d, h, work, c);
+    next_open(d, h, work, &lits[1..], i)
 }
 
 // Whether a literal has a reason, on a level of the mask.
@@ -115,8 +114,8 @@ fn push_reason(
     requires { ⌜ Pushable d (whole d h (now work)) c stack noted ⌝ }
     ensures { λ r. ⌜ Pushes d h (whole d h (now (work .entry))) mask c stack noted (now (work .exit)) r ⌝ }
 {
-    let n = state::clauses::size(d, h, work, c);
-    let mut i = 1;
+    let n = state::clauses::size(d, h, work, c) - 1;
+    let mut i = 0;
     let mut s = stack;
     let mut t = noted;
     loop {
@@ -128,7 +127,7 @@ fn push_reason(
                 noted: t,
             };
         }
-        let l = state::clauses::lit_at(d, h, work, c, i);
+        let l = state::clauses::lit_at(d, h, work, c, 1 + i);
         if !can_trace(d, h, work, mask, l) {
             return Pushed {
                 done: false,

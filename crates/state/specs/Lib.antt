@@ -4,6 +4,7 @@ pub mod Fresh
 pub mod Laws
 pub mod Lending
 pub mod MarksLaws
+pub mod Reasons
 pub mod Shown
 pub mod StartLaws
 pub mod Still

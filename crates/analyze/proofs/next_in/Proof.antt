@@ -4,7 +4,7 @@ use lib.ListN.{length, drop, take, getD}
 use Prim.Native.Nat.{_≤_, _-_}
 use borrow.Author.Needs.{needs}
 use Rattle.trail.specs.View.{LitsOf}
-use Rattle.analyze.specs.Joining.{part-all}
+use Rattle.state.specs.Reasons.{part-all}
 use Rattle.analyze.proofs.next_in.Statement.{statement}
 use Rattle.analyze.proofs.next_in.Tie as tie
 

@@ -11,7 +11,7 @@ var-requires : tie.Need-var-requires
 var-requires c κs = search needs
 
 set-mark-requires : tie.Need-set-mark-requires
-set-mark-requires c κs = (c .before .before .before .before .before .pre .0, rw (c .var .ensures, c .before .before .lit-at .ensures) (c .before .before .before .before .before .pre .1 .0 (c .before .before .before .before .before .args .i) (c .before .before .before .before .before .pre .1 .1)))
+set-mark-requires c κs = (c .before .before .before .before .before .pre .0, rw (c .var .ensures, c .before .before .lit-at .ensures) (c .before .before .before .before .before .pre .1 .1))
 
 same-length : tie.Need-same-length
 same-length c = search needs

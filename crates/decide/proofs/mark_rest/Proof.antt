@@ -17,21 +17,29 @@ abbrev μ-loop : tie.MeasureT-loop
 μ-loop d h work₀ c n i₀ work i = n - i
 
 size-requires : tie.Need-size-requires Inv-loop μ-loop
-size-requires c κs = search needs
+size-requires c κs = (c .before .before .pre .0, c .before .before .pre .1 .stored)
+
+sub-n : tie.Need-sub-n Inv-loop μ-loop
+sub-n c = omega (arith, c .size .ensures, c .before .before .before .pre .1 .some)
 
 next-in-requires : tie.Need-next-in-requires Inv-loop μ-loop
-next-in-requires c κs = (c .before .before .before .before .pre .0, (c .before .before .before .before .pre .1 .0, (c .before .before .before .before .pre .1 .1 .0, c .before .before .before .before .pre .1 .1 .1)))
+next-in-requires c κs =
+    let p = c .before .before .before .before .pre in
+    (p .0, (p .1, omega (arith, p .1 .some)))
 
 loop-holds : tie.Need-loop-holds Inv-loop μ-loop
 loop-holds c =
     let a = c .before .before .before .before .before .args in
-    (marking-starts (a .d) (a .h) (a .work .now) (a .c) _ (c .before .before .before .before .before .pre .0) (c .before .before .before .before .before .pre .1 .1 .1) (c .next-in .ensures), refl)
+    (marking-starts (a .d) (a .h) (a .work .now) (a .c) _ (c .before .before .before .before .before .pre .0) (c .next-in .ensures), refl)
+
+add-mark-at : tie.Need-add-mark-at Inv-loop μ-loop
+add-mark-at c = omega (arith, c .before .before .before .before .before .size .ensures)
 
 mark-at-requires : tie.Need-mark-at-requires Inv-loop μ-loop
 mark-at-requires c κs =
     let a = c .before .before .before .before .before .before .before .before .args in
     let l = c .before .before .loop in
-    marking-asks (a .d) (a .h) (a .work .now) (a .c) (l .i) (l .work) (l .inv .0) (c .before .before .before .before .before .before .before .before .pre .1 .1 .0) (omega (arith, c .before .before .before .before .before .size .ensures))
+    marking-asks (a .d) (a .h) (a .work .now) (a .c) (l .i) (l .work) (l .inv .0) (omega (arith, c .before .before .before .before .before .size .ensures)) (c .before .before .before .before .before .before .before .before .pre .1)
 
 add-next-in : tie.Need-add-next-in Inv-loop μ-loop
 add-next-in c = omega (arith, c .before .before .before .before .before .before .before .before .before .size .ensures)
@@ -39,8 +47,9 @@ add-next-in c = omega (arith, c .before .before .before .before .before .before 
 next-in-requires-2 : tie.Need-next-in-requires-2 Inv-loop μ-loop
 next-in-requires-2 c κs =
     let a = c .before .before .before .before .before .before .before .before .before .before .before .before .args in
+    let p = c .before .before .before .before .before .before .before .before .before .before .before .before .pre in
     let l = c .before .before .before .before .before .before .loop in
-    marked-asks (a .d) (a .h) (a .work .now) (a .c) (l .i) (l .work) (l .inv .0) _ (omega (arith, c .before .before .before .before .before .before .before .before .before .size .ensures)) (c .before .before .before .mark-at .ensures) (c .before .before .before .before .before .before .before .before .before .before .before .before .pre .1 .0) (c .before .before .before .before .before .before .before .before .before .before .before .before .pre .1 .1 .0)
+    marked-asks (a .d) (a .h) (a .work .now) (a .c) (l .i) (l .work) (l .inv .0) (omega (arith, c .before .before .before .before .before .before .before .before .before .size .ensures)) _ (c .before .before .before .mark-at .ensures) (p .1)
 
 loop-less : tie.Need-loop-less Inv-loop μ-loop
 loop-less c = omega (arith, c .next-in2 .ensures)
@@ -49,7 +58,7 @@ loop-again : tie.Need-loop-again Inv-loop μ-loop
 loop-again c =
     let a = c .before .before .before .before .before .before .before .before .before .before .before .before .before .args in
     let l = c .before .before .before .before .before .before .before .loop in (
-      marking-turns (a .d) (a .h) (a .work .now) (a .c) (l .i) (l .work) (l .inv .0) _ (omega (arith, c .before .before .before .before .before .before .before .before .before .before .size .ensures)) (c .before .before .before .before .mark-at .ensures) _ (c .next-in2 .ensures),
+      marking-turns (a .d) (a .h) (a .work .now) (a .c) (l .i) (l .work) (l .inv .0) (omega (arith, c .before .before .before .before .before .before .before .before .before .before .size .ensures)) _ (c .before .before .before .before .mark-at .ensures) _ (c .next-in2 .ensures),
       c .before .before .before .before .mark-at .kept .1 .1 .0 ∙ l .inv .1,
     )
 
@@ -69,8 +78,10 @@ mark-rest-spec =
     Inv-loop
     μ-loop
     size-requires
+    sub-n
     next-in-requires
     loop-holds
+    add-mark-at
     mark-at-requires
     add-next-in
     next-in-requires-2

@@ -23,7 +23,7 @@ shared-slice-read-t12 : tie.Need-shared-slice-read-t12 Inv-loop μ-loop
 shared-slice-read-t12 c = omega arith
 
 is-open-requires : tie.Need-is-open-requires Inv-loop μ-loop
-is-open-requires c κs = (c .before .before .before .before .before .pre .0, c .before .before .before .before .before .pre .1 .0 (c .before .before .loop .k) (omega arith) (omega arith))
+is-open-requires c κs = (c .before .before .before .before .before .pre .0, c .before .before .before .before .before .pre .1 (c .before .before .loop .k) (omega arith))
 
 returns : tie.Need-returns Inv-loop μ-loop
 returns c =

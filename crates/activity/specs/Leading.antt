@@ -12,8 +12,11 @@ use lib.Dec.{eqb}
 use lib.Ieee.{Float, nan, lt}
 use Rattle.model.specs.Lit.{l-undef}
 use Rattle.model.specs.Decide.{pick}
+use Rattle.model.specs.Limits.{max-variables}
 use Rattle.activity.specs.declared.Best.{Best}
-use Rattle.activity.specs.Pick.{below, below-none, better, pick-more, pick-last}
+use Rattle.activity.specs.declared.Choice.{Choice}
+use Rattle.activity.specs.declared.Choice.the-variants.{Of, Nothing}
+use Rattle.activity.specs.Pick.{better, pick-more, pick-last}
 
 -- r is the first unset variable, or the number of variables
 pub record First (values : List ℕ) (r : ℕ) : Type 0 where
@@ -30,10 +33,20 @@ set-more values i s e v h = go (ℕ-discrete v i)
     go (yes p) = rw p e
     go (no p) = s v (omega arith)
 
+-- there is an activity for each variable
+pub record Sizes (values : List ℕ) (act : List Float) : Type 0 where
+  pub most : length values ≤ max-variables
+  pub fits : length values ≤ length act
+
 -- b is a variable, with its activity
 pub record Leads (act : List Float) (values : List ℕ) (b : Best) : Type 0 where
-  pub var : b .var < length values
-  pub top : b .top ≡ getD act (b .var) nan
+  pub var : b .var .0 < length values
+  pub top : b .top ≡ getD act (b .var .0) nan
+
+-- what is picked
+abbrev pub choice-of : Choice → Option ℕ
+choice-of (Of v) = some (v .0)
+choice-of Nothing = none
 
 module _ (act : List Float) (values : List ℕ) where
   -- the set variables are passed by
@@ -43,8 +56,8 @@ module _ (act : List Float) (values : List ℕ) where
       let stays : none ≡ better act none k (getD values k 0) = rw (s k (omega arith), better) in
       subst (λ (i : ℕ). pick act none i (drop i values) ≡ pick act none 0 values) (add-one k) (pick-more act values none none k (omega arith) stays ∙ passed k (omega arith) (λ v g. s v (omega arith)))
 
-  pub none-unset : (r : ℕ) → First values r → r ≡ length values → below (length values) r ≡ pick act none 0 values
-  none-unset r f e = below-none (length values) r (omega arith) ∙ sym (pick-last act values none r (omega arith)) ∙ passed r (f .within) (f .before)
+  pub none-unset : (r : ℕ) → First values r → r ≡ length values → none ≡ pick act none 0 values
+  none-unset r f e = sym (pick-last act values none r (omega arith)) ∙ passed r (f .within) (f .before)
 
   pub from-first : (r : ℕ) → First values r → r < length values → pick act (some r) (r + 1) (drop (r + 1) values) ≡ pick act none 0 values
   from-first r f h =

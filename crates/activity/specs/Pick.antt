@@ -1,4 +1,4 @@
--- The pick of a variable by turns, with a number of variables for none.
+-- The pick of a variable by turns.
 use Prim.Native.Nat.{ℕ, zero, suc, _+_, _≤_, _<_}
 use native.Mathlib.Omega.{arith}
 use native.Mathlib.Decide.{ℕ-discrete}
@@ -9,21 +9,11 @@ use mathlib.Core.List.{List, [], _∷_}
 use mathlib.Core.Option.{Option, none, some}
 use lib.ListN.{length, getD, drop, drop-of-length-le}
 use lib.Seq.{drop-cons}
-use lib.Dec.{ltb, eqb}
+use lib.Dec.{eqb}
 use lib.Ieee.{Float, nan, lt}
-use borrow.Author.Tests.{lt-ltb, le-ltb, eqb-true}
+use borrow.Author.Tests.{eqb-true}
 use Rattle.model.specs.Lit.{l-undef}
 use Rattle.model.specs.Decide.{pick}
-
--- r where it is below n, else none
-abbrev pub below : ℕ → ℕ → Option ℕ
-below n r = elim (ltb r n) [ true ↦ some r | false ↦ none ]
-
-pub below-some : (n r : ℕ) → r < n → below n r ≡ some r
-below-some n r h = rw (lt-ltb r n h, below)
-
-pub below-none : (n r : ℕ) → n ≤ r → below n r ≡ none
-below-none n r h = rw (le-ltb r n h, below)
 
 -- the better of the best so far and variable v, whose value is x
 abbrev pub better : List Float → Option ℕ → ℕ → ℕ → Option ℕ

@@ -2,15 +2,17 @@
 ghost use mathlib.Core.Path.{_≡_};
 ghost use mathlib.Core.List.{List, map};
 ghost use mathlib.Core.Option.{none, some};
-ghost use Prim.Native.Nat.{_<_, _≤_};
+ghost use Prim.Native.Nat.{_<_};
 ghost use lib.ListN.{length, getD, replicate};
 ghost use lib.Ieee.{Float};
 ghost use Rattle.model.specs.State.{f64-zero, initial-activity};
 ghost use Rattle.model.specs.Activity.{var-bump-activity, var-decay-activity};
 ghost use Rattle.model.specs.Decide.{pick};
 ghost use Rattle.activity.specs.Activities.{activity, scaled};
-ghost use Rattle.activity.specs.Pick.{below, better};
-ghost use Rattle.activity.specs.Leading.{First, Leads};
+ghost use Rattle.activity.specs.Pick.{better};
+ghost use Rattle.activity.specs.Leading.{First, Sizes, Leads, choice-of};
+use clause::UNDEF;
+use clause::Var;
 
 // Each activity times 1e-100.
 fn rescale(act: &mut [f64])
@@ -22,12 +24,13 @@ fn rescale(act: &mut [f64])
 }
 
 // The activity of v grows by the increment. The result is the increment afterwards.
-pub fn bump(act: &mut [f64], v: usize, inc: f64) -> f64
-    requires { ⌜ v < length (now act) ⌝ }
-    ensures { λ r. ⌜ activity (now (act .exit)) r ≡ var-bump-activity (activity (now (act .entry)) inc) v ⌝ }
+pub fn bump(act: &mut [f64], v: Var, inc: f64) -> f64
+    requires { ⌜ v .0 < length (now act) ⌝ }
+    ensures { λ r. ⌜ activity (now (act .exit)) r ≡ var-bump-activity (activity (now (act .entry)) inc) (v .0) ⌝ }
 {
-    let x = act[v] + inc;
-    act[v] = x;
+    let i = v.0 as usize;
+    let x = act[i] + inc;
+    act[i] = x;
     if x > 1e100 {
         rescale(act);
         inc * 1e-100
@@ -67,7 +70,7 @@ fn first_unset(values: &[u32]) -> usize
     let n = values.len();
     let mut i = 0;
     while i < n {
-        if values[i] == 2 {
+        if values[i] == UNDEF {
             return i;
         }
         i += 1;
@@ -77,43 +80,53 @@ fn first_unset(values: &[u32]) -> usize
 
 // The best variable so far. Its activity is kept beside it: the pick looks at every variable, and this is what it compares with.
 struct Best {
-    var: usize,
+    var: Var,
     top: f64,
 }
 
 // The better of the best so far and variable i. Few activities are above the best, so that test comes first.
 fn better<'a>(values: &'a [u32], act: &'a [f64], b: Best, i: usize) -> Best
-    requires { ⌜ length (now values) ≤ length (now act) ⌝ }
+    requires { ⌜ Sizes (now values) (now act) ⌝ }
     requires { ⌜ Leads (now act) (now values) b ⌝ }
     requires { ⌜ i < length (now values) ⌝ }
-    ensures { λ r. ⌜ some (r .var) ≡ better (now (act .entry)) (some (b .var)) i (getD (now (values .entry)) i 0) ⌝ }
+    ensures { λ r. ⌜ some (r .var .0) ≡ better (now (act .entry)) (some (b .var .0)) i (getD (now (values .entry)) i 0) ⌝ }
     ensures { λ r. ⌜ Leads (now (act .entry)) (now (values .entry)) r ⌝ }
 {
     let x = act[i];
     if b.top < x {
-        if values[i] == 2 {
-            return Best { var: i, top: x };
+        if values[i] == UNDEF {
+            return Best {
+                var: Var(i as u32),
+                top: x,
+            };
         }
     }
     b
 }
 
-// The unset variable of greatest activity, the lowest on a tie; the number of variables where none is unset.
-pub fn pick<'a>(values: &'a [u32], act: &'a [f64]) -> usize
-    requires { ⌜ length (now values) ≤ length (now act) ⌝ }
-    ensures { λ r. ⌜ below (length (now (values .entry))) r ≡ pick (now (act .entry)) none 0 (now (values .entry)) ⌝ }
+// What the pick finds: a variable, or that every one has a value.
+pub enum Choice {
+    Of(Var),
+    Nothing,
+}
+
+// The unset variable of greatest activity, the lowest on a tie.
+pub fn pick<'a>(values: &'a [u32], act: &'a [f64]) -> Choice
+    requires { ⌜ Sizes (now values) (now act) ⌝ }
+    ensures { λ r. ⌜ choice-of r ≡ pick (now (act .entry)) none 0 (now (values .entry)) ⌝ }
 {
     let n = values.len();
     let k = first_unset(values);
     if k == n {
-        return k;
+        return Choice::Nothing;
     }
     let mut b = Best {
-        var: k,
+        var: Var(k as u32),
         top: act[k],
     };
     for i in k + 1..n {
         b = better(values, act, b, i);
     }
-    b.var
+    let v = b.var;
+    Choice::Of(v)
 }

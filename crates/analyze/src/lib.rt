@@ -25,6 +25,7 @@ ghost use Rattle.analyze.specs.Uip.{uip-of};
 ghost use Rattle.analyze.specs.Second.{better, highest-place, Seconded};
 use clause::Lit;
 use clause::Var;
+use clause::wide;
 use state::Config;
 use state::Header;
 use state::Sizes;
@@ -34,12 +35,6 @@ pub struct Joined {
     pub path: usize,
     pub learnt: usize,
     pub inc: f64,
-}
-
-fn wide(x: u32) -> usize
-    ensures { λ r. ⌜ r ≡ x ⌝ }
-{
-    x as usize
 }
 
 // Whether a literal joins: its variable is not marked, and above level 0.
@@ -94,12 +89,11 @@ fn join_lit(d: Sizes, h: Header, work: &mut [u32], act: &mut [f64], r: Joined, q
         (join (whole d h (now (work .entry)) .assignment .vars) (q .0 ∷ []) (so-far (whole d h (now (work .entry))) (now (act .entry)) r)) ⌝ }
 {
     let v = q.var();
-    let i = wide(v.0);
     let level = state::assignment::level(d, h, work, v);
     let last = state::assignment::decision_level(d, h, work);
     let k = r.learnt;
     state::marks::set_mark(d, h, work, v, 1);
-    let inc = activity::bump(act, i, r.inc);
+    let inc = activity::bump(act, v, r.inc);
     if level == last {
         return Joined {
             path: r.path + 1,

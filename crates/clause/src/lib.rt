@@ -16,6 +16,16 @@ pub const FALSE: u32 = 1;
 
 pub const UNDEF: u32 = 2;
 
+// The reason of a decision and of a unit, the Rust's CRef::UNDEF.
+pub const NO_REASON: u32 = 4294967295;
+
+// A cell as a place.
+pub fn wide(x: u32) -> usize
+    ensures { λ r. ⌜ r ≡ x ⌝ }
+{
+    x as usize
+}
+
 impl Lit {
     // The literal that no script reaches.
     pub fn undef() -> Lit
@@ -58,8 +68,8 @@ impl Lit {
         requires { ⌜ known < 3 ⌝ }
         ensures { λ r. ⌜ r ≡ value-for known (self .0) ⌝ }
     {
-        if known == 2 {
-            return 2;
+        if known == UNDEF {
+            return UNDEF;
         }
         (known + self.0 % 2) % 2
     }

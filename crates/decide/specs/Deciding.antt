@@ -26,7 +26,7 @@ use Rattle.assign.specs.Level.{level-more}
 use Rattle.assign.specs.Levels.{Levels, levels-empty, levels-trail}
 use Rattle.assign.specs.Pick.{Free, branch-some}
 use Rattle.assign.specs.Decide.{opened-empty, open-formed}
-use Rattle.activity.specs.Pick.{below, below-some, below-none}
+use Rattle.activity.specs.Pick.{pick-unset}
 use Rattle.trail.specs.View.{Assignment, enqueued, next-level}
 use Rattle.trail.specs.declared.TrailHead.{TrailHead}
 use Rattle.watch.specs.View.{Under}
@@ -137,26 +137,21 @@ module _ (g : Config) (h : Header) (w : List ℕ) (s : Still g h w) (p : ℕ) (f
 
 -- ---- the pick
 
-module _ (g : Config) (h : Header) (w : List ℕ) (s : Still g h w) (act : List Float) (v : ℕ)
-    (e : below (length (state-at g h w .vars .values)) v ≡ pick act none 0 (state-at g h w .vars .values)) where
-  pub picks-none : g .sizes .vars ≤ v → none ≡ pick-branch-lit act (state-at g h w)
+module _ (g : Config) (h : Header) (w : List ℕ) (s : Still g h w) (act : List Float) where
+  pub picks-none : none ≡ pick act none 0 (state-at g h w .vars .values) → none ≡ pick-branch-lit act (state-at g h w)
   unfolding pick-branch-lit
-  picks-none b =
-      let n = s .formed .vars .values in
-      let q : pick act none 0 (state-at g h w .vars .values) ≡ none = sym e ∙ below-none (length (state-at g h w .vars .values)) v (omega arith) in
-      rw (q, pick-branch-lit) refl
+  picks-none e = rw (sym e, pick-branch-lit) refl
 
-  pub picks-some : v < g .sizes .vars → some (2 * v + getD (state-at g h w .phases) v 0) ≡ pick-branch-lit act (state-at g h w)
-  unfolding pick-branch-lit
-  picks-some b =
-      let n = s .formed .vars .values in
-      let q : pick act none 0 (state-at g h w .vars .values) ≡ some v = sym e ∙ below-some (length (state-at g h w .vars .values)) v (omega arith) in
-      rw (q, pick-branch-lit) refl
+  module _ (v : ℕ) (e : some v ≡ pick act none 0 (state-at g h w .vars .values)) where
+    pub picked-low : v < g .sizes .vars
+    picked-low = omega (arith, pick-unset act (state-at g h w .vars .values) v (sym e) .0, s .formed .vars .values)
 
-  pub phase-low : v < g .sizes .vars → getD (state-at g h w .phases) v 0 < 2
-  phase-low b =
-      let n = s .formed .phases in
-      s .formed .signs (getD (state-at g h w .phases) v 0) (getD-in (state-at g h w .phases) v 0 (omega arith))
+    pub picks-some : some (2 * v + getD (state-at g h w .phases) v 0) ≡ pick-branch-lit act (state-at g h w)
+    unfolding pick-branch-lit
+    picks-some = rw (sym e, pick-branch-lit) refl
+
+    pub phase-low : getD (state-at g h w .phases) v 0 < 2
+    phase-low = s .formed .signs (getD (state-at g h w .phases) v 0) (getD-in (state-at g h w .phases) v 0 (omega (arith, picked-low, s .formed .phases)))
 
 -- what comes of it
 module _ (g : Config) (h : Header) (w : List ℕ) (s : Still g h w) (act : List Float) where

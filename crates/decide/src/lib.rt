@@ -20,17 +20,15 @@ ghost use Rattle.state.specs.Still.{state-at, Still, Has};
 ghost use Rattle.decide.specs.Blaming.{vars-of, Passable, Passed, Blamable, Blamed};
 ghost use Rattle.decide.specs.Final.{Explained};
 ghost use Rattle.decide.specs.Deciding.{branch-of, taken-up, Decides};
+use activity::Choice;
+use clause::FALSE;
 use clause::Lit;
-use clause::Var;
+use clause::NO_REASON;
+use clause::TRUE;
+use clause::wide;
 use state::Config;
 use state::Header;
 use state::Sizes;
-
-fn wide(x: u32) -> usize
-    ensures { λ r. ⌜ r ≡ x ⌝ }
-{
-    x as usize
-}
 
 // The place, from i on, of the first literal of the part that is above level 0; the part's length where there is none.
 fn next_above<'a>(d: Sizes, h: Header, work: &'a [u32], part: &'a [u32], i: usize) -> usize
@@ -101,7 +99,7 @@ fn pass_back(d: Sizes, h: Header, work: &mut [u32], i: usize) -> Header
         return h;
     }
     let c = state::assignment::reason(d, h, work, v);
-    if c == 4294967295 {
+    if c == NO_REASON {
         let r = state::marks::final_insert(d, h, work, l.negate());
         state::marks::set_mark(d, r, work, v, 0);
         return r;
@@ -169,7 +167,7 @@ fn open_level(g: Config, h: Header, work: &mut [u32], p: Lit) -> Header
 {
     let d = g.sizes;
     let r = state::assignment::new_decision_level(d, h, work);
-    state::assignment::enqueue(d, r, work, p, 4294967295)
+    state::assignment::enqueue(d, r, work, p, NO_REASON)
 }
 
 // The unset variable of greatest activity, in its saved sign.
@@ -179,13 +177,12 @@ fn pick_branch_lit<'a>(g: Config, h: Header, work: &'a [u32], act: &'a [f64]) ->
     ensures { λ r. ⌜ branch-of r ≡ pick-branch-lit (now (act .entry)) (state-at g h (now (work .entry))) ⌝ }
 {
     let d = g.sizes;
-    let v = activity::pick(state::assignment::values(d, h, work), act);
-    if d.vars <= v {
+    let c = activity::pick(state::assignment::values(d, h, work), act);
+    let Choice::Of(v) = c else {
         return Branch::Nothing;
-    }
-    let x = Var(v as u32);
-    let sign = state::assignment::phase(d, h, work, x);
-    Branch::On(Lit::new(x, sign))
+    };
+    let sign = state::assignment::phase(d, h, work, v);
+    Branch::On(Lit::new(v, sign))
 }
 
 // An assumption that is not true, of value x: it is false, or decided on.
@@ -196,7 +193,7 @@ fn take_up(g: Config, h: Header, work: &mut [u32], p: Lit, x: u32) -> Decision
     requires { ⌜ decision-level (state-at g h (now work) .vars) < 3 * g .sizes .vars ⌝ }
     ensures { λ r. ⌜ Decides g (taken-up (state-at g h (now (work .entry))) (p .0)) r (now (work .exit)) ⌝ }
 {
-    if x == 1 {
+    if x == FALSE {
         let q = p.negate();
         let r = analyze_final(g, h, work, q);
         return Decision::Failed(r);
@@ -235,7 +232,7 @@ pub fn decide(g: Config, h: Header, work: &mut [u32], act: &[f64], assumptions: 
     while k < n {
         let p = Lit(assumptions[k]);
         let x = state::assignment::value(d, r, work, p);
-        if x != 0 {
+        if x != TRUE {
             return take_up(g, r, work, p, x);
         }
         r = state::assignment::new_decision_level(d, r, work);

@@ -15,7 +15,10 @@ ghost use Rattle.intake.specs.Sorting.{Opened};
 ghost use Rattle.intake.specs.Simplifying.{Turned, Simplified};
 ghost use Rattle.intake.specs.Storing.{Storing, Pushed, Pushing, Added};
 ghost use Rattle.intake.specs.Taking.{Takeable, Took};
+use clause::FALSE;
 use clause::Lit;
+use clause::NO_REASON;
+use clause::TRUE;
 use state::Config;
 use state::Header;
 use state::Sizes;
@@ -129,13 +132,13 @@ fn judge(d: Sizes, h: Header, work: &mut [u32], f: Keeping, i: usize) -> Judged
     let v = state::assignment::value(d, h, work, l);
     let last = f.last;
     let opposite = last.negate();
-    if v == 0 {
+    if v == TRUE {
         return Judged::Dropped;
     }
     if l.0 == opposite.0 {
         return Judged::Dropped;
     }
-    if v == 1 {
+    if v == FALSE {
         return Judged::On(f);
     }
     if l.0 == last.0 {
@@ -173,7 +176,13 @@ fn simplify(d: Sizes, h: Header, work: &mut [u32], n: usize) -> Kept
     Kept::Some(f.count)
 }
 
-// The answer cell: 0 no model, 1 taken, 2 no storage.
+// The answer cell: there is no model, the clause is taken, there is no storage.
+const NO_MODEL: u32 = 0;
+
+const IS_TAKEN: u32 = 1;
+
+const NO_STORAGE: u32 = 2;
+
 pub struct Taken {
     pub head: Header,
     pub answer: u32,
@@ -189,19 +198,31 @@ fn take_kept(g: Config, h: Header, work: &mut [u32], n: usize) -> Taken
     let d = g.sizes;
     if n == 0 {
         let r = state::assignment::with_ok(h, false);
-        return Taken { head: r, answer: 0 };
+        return Taken {
+            head: r,
+            answer: NO_MODEL,
+        };
     }
     if n == 1 {
         let p = state::marks::buffer_at(d, h, work, 0);
-        let r = state::assignment::enqueue(d, h, work, p, 4294967295);
-        return Taken { head: r, answer: 1 };
+        let r = state::assignment::enqueue(d, h, work, p, NO_REASON);
+        return Taken {
+            head: r,
+            answer: IS_TAKEN,
+        };
     }
     let room = state::clauses::has_room(d, h, work, n);
     if !room {
-        return Taken { head: h, answer: 2 };
+        return Taken {
+            head: h,
+            answer: NO_STORAGE,
+        };
     }
     let r = store_buffer(g, h, work, n);
-    Taken { head: r, answer: 1 }
+    Taken {
+        head: r,
+        answer: IS_TAKEN,
+    }
 }
 
 // A clause is taken, at level 0.
@@ -216,13 +237,19 @@ pub fn add_clause(g: Config, h: Header, work: &mut [u32], part: &[u32]) -> Taken
     let d = g.sizes;
     let ok = h.ok;
     if !ok {
-        return Taken { head: h, answer: 0 };
+        return Taken {
+            head: h,
+            answer: NO_MODEL,
+        };
     }
     sort_in(d, h, work, part);
     let n = part.len();
     let k = simplify(d, h, work, n);
     let Kept::Some(j) = k else {
-        return Taken { head: h, answer: 1 };
+        return Taken {
+            head: h,
+            answer: IS_TAKEN,
+        };
     };
     take_kept(g, h, work, j)
 }

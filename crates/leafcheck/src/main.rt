@@ -3,7 +3,9 @@ ghost use Prim.Native.Nat.{_<_, _≤_};
 ghost use lib.ListN.{length};
 ghost use Rattle.region.specs.Split.{total};
 ghost use Rattle.litset.specs.View.{shape, Rep};
+use activity::Choice;
 use clause::Lit;
+use clause::Var;
 use litset::Head;
 use litset::Size;
 
@@ -41,8 +43,8 @@ fn terms(n: u32)
 }
 
 // Variable v is bumped n times, with a decay after each.
-fn bumps(act: &mut [f64], v: usize, inc: f64, n: u32) -> f64
-    requires { ⌜ v < length (now act) ⌝ }
+fn bumps(act: &mut [f64], v: Var, inc: f64, n: u32) -> f64
+    requires { ⌜ v .0 < length (now act) ⌝ }
 {
     let mut step = inc;
     for i in 0..n {
@@ -59,16 +61,28 @@ fn activities(act: &[f64], inc: f64) {
     line();
 }
 
+// What is picked: a variable, or the number of variables where none is.
+fn picked<'a>(values: &'a [u32; 3], act: &'a [f64])
+    requires { ⌜ 3 ≤ length (now act) ⌝ }
+{
+    let c = activity::pick(values, act);
+    if let Choice::Of(v) = c {
+        number(wide(v.0));
+    } else {
+        number(3);
+    }
+}
+
 // The pick where all variables are unset, only the first, and none.
 fn picks(act: &[f64])
     requires { ⌜ 3 ≤ length (now act) ⌝ }
 {
     let all = [2u32, 2, 2];
-    number(activity::pick(&all, act) as u64);
+    picked(&all, act);
     let first = [2u32, 0, 1];
-    number(activity::pick(&first, act) as u64);
+    picked(&first, act);
     let none = [0u32, 1, 0];
-    number(activity::pick(&none, act) as u64);
+    picked(&none, act);
     line();
 }
 
@@ -124,9 +138,9 @@ fn main() {
     terms(15);
     let mut act = [1.0f64; 3];
     let inc = activity::initial(&mut act);
-    let once = bumps(&mut act, 1, inc, 1);
+    let once = bumps(&mut act, Var(1), inc, 1);
     activities(&act, once);
-    let more = bumps(&mut act, 2, once, 5000);
+    let more = bumps(&mut act, Var(2), once, 5000);
     activities(&act, more);
     picks(&act);
     let mut cells = [7u32; 10];

@@ -13,6 +13,7 @@ ghost use Rattle.learn.specs.Learned.{Learned};
 ghost use Rattle.learn.specs.Backtracking.{buffer-at, Storable};
 ghost use Rattle.learn.specs.Adding.{Backs};
 ghost use Rattle.learning.specs.Analyzed.{Analyzed};
+use clause::NO_REASON;
 use state::Config;
 use state::Header;
 
@@ -23,13 +24,16 @@ pub struct Learnt {
     pub inc: f64,
 }
 
+// The mode in which a clause is minimised.
+const MINIMISING: u32 = 2;
+
 // What the mode leaves of the n literals in the buffer. Every mark is taken back.
 fn reduce(g: Config, h: Header, work: &mut [u32], n: usize) -> usize
     requires { ⌜ Rep (g .sizes) h (now work) ⌝ }
     requires { ⌜ Ready (g .sizes) h (whole (g .sizes) h (now work)) n ⌝ }
     ensures { λ r. ⌜ Reduced g h (whole (g .sizes) h (now (work .entry))) n (now (work .exit)) r ⌝ }
 {
-    if g.mode == 2 {
+    if g.mode == MINIMISING {
         return minimise::minimise(g, h, work, n);
     }
     analyze::unmark_buffer(g, h, work, n);
@@ -69,7 +73,7 @@ fn learn_unit(g: Config, h: Header, work: &mut [u32]) -> Header
     let d = g.sizes;
     let p = state::marks::buffer_at(d, h, work, 0);
     let k = state::assignment::cancel_until(d, h, work, 0, g.phase);
-    state::assignment::enqueue(d, k, work, p, 4294967295)
+    state::assignment::enqueue(d, k, work, p, NO_REASON)
 }
 
 // A clause of two or more literals is stored, and is the reason of its first one.

@@ -6,6 +6,7 @@ ghost use lib.ListN.{length, getD};
 ghost use Rattle.region.specs.Split.{total};
 ghost use Rattle.litset.specs.View.{shape, view, inserted, unmarked, emptied, Rep, Holds, Insertable, Clearing};
 use clause::Lit;
+use clause::wide;
 
 // How many literals there are, and how many members there is room for.
 pub struct Size {
@@ -83,12 +84,6 @@ fn unmark(d: Size, h: Head, s: &mut [u32], i: usize)
     let k = d.lits + i;
     let l = wide(s[k]);
     s[l] = 0;
-}
-
-fn wide(x: u32) -> usize
-    ensures { λ r. ⌜ r ≡ x ⌝ }
-{
-    x as usize
 }
 
 // The empty set: every flag is 0.

@@ -16,6 +16,7 @@ ghost use Rattle.minimise.specs.Redundant.{Clearable, Traceable, Tries};
 ghost use Rattle.minimise.specs.Dropping.{Listed, Copied, Judgeable, Judges, Droppable, Drops, Minimising, Shrinks};
 ghost use Rattle.minimise.specs.Minimised.{Ready, Minimised};
 use clause::Lit;
+use clause::NO_REASON;
 use state::Config;
 use state::Header;
 use state::Sizes;
@@ -83,7 +84,7 @@ fn can_trace(d: Sizes, h: Header, work: &[u32], mask: u32, l: Lit) -> bool
     ensures { λ r. ⌜ r ≡ traceable (whole d h (now (work .entry)) .assignment .vars) mask (l .0) ⌝ }
 {
     let v = l.var();
-    if state::assignment::reason(d, h, work, v) == 4294967295 {
+    if state::assignment::reason(d, h, work, v) == NO_REASON {
         return false;
     }
     abstract_level(state::assignment::level(d, h, work, v)) & mask != 0
@@ -228,7 +229,7 @@ fn is_redundant(d: Sizes, h: Header, work: &mut [u32], mask: u32, l: Lit, noted:
     requires { ⌜ Judgeable d (whole d h (now work)) (l .0) noted ⌝ }
     ensures { λ r. ⌜ Judges d h (whole d h (now (work .entry))) mask (l .0) noted (now (work .exit)) r ⌝ }
 {
-    if state::assignment::reason(d, h, work, l.var()) == 4294967295 {
+    if state::assignment::reason(d, h, work, l.var()) == NO_REASON {
         return Traced {
             gone: false,
             noted: noted,

@@ -7,6 +7,7 @@ ghost use Rattle.watch.specs.Walk.{Stands};
 ghost use Rattle.state.specs.View.{Room, Rep, whole};
 ghost use Rattle.tour.specs.Live.{Live};
 use clause::Lit;
+use clause::NO_REASON;
 use clause::Var;
 use state::Header;
 use state::Sizes;
@@ -34,7 +35,7 @@ fn variable(d: Sizes, h: Header, work: &[u32], v: Var)
     number(wide(assignment::var_value(d, h, work, v)));
     number(assignment::level(d, h, work, v) as u64);
     let c = assignment::reason(d, h, work, v);
-    if c == 4294967295 {
+    if c == NO_REASON {
         io::write_all(1, b"- ");
     } else {
         number(wide(c));
@@ -209,7 +210,7 @@ fn decide(d: Sizes, h: Header, work: &mut [u32], p: Lit) -> Header
     ensures { λ r. ⌜ Live d r (now (work .exit)) ⌝ }
 {
     let a = tour::open(d, h, work);
-    tour::put(d, a, work, p, 4294967295)
+    tour::put(d, a, work, p, NO_REASON)
 }
 
 // Two levels with one literal each.

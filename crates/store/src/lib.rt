@@ -7,6 +7,7 @@ ghost use lib.ListN.{length, getD};
 ghost use lib.Dec.{leb, ltb};
 ghost use Rattle.store.specs.View.{Room, Counts, Rep, Holds, view, clause-of, no-clauses, lit-set, lit-pushed, closed, discarded};
 use clause::Lit;
+use clause::wide;
 
 // What never changes: room for clauses, and for literals.
 pub struct StoreSize {
@@ -131,10 +132,4 @@ pub fn start(d: StoreSize, s: &mut [u32]) -> StoreHead
         literals: 0,
         pushed: 0,
     }
-}
-
-fn wide(x: u32) -> usize
-    ensures { λ r. ⌜ r ≡ x ⌝ }
-{
-    x as usize
 }

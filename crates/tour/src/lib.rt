@@ -8,6 +8,7 @@ ghost use Rattle.state.specs.StartLaws.{Started};
 ghost use Rattle.tour.specs.Live.{Live};
 ghost use Rattle.tour.specs.Steps.{At, opened, placed, gone-back, reblocked, sent, three, added, finished, unfinished};
 use clause::Lit;
+use clause::wide;
 use state::Header;
 use state::Sizes;
 use state::assignment;
@@ -41,7 +42,7 @@ pub fn put(d: Sizes, h: Header, work: &mut [u32], p: Lit, from: u32) -> Header
     ensures { λ r. ⌜ At d r (now (work .exit)) (placed d h (whole d h (now (work .entry))) (p .0) from) ⌝ }
 {
     if h.trail.assigned < d.vars {
-        if ((p.0 / 2) as usize) < d.vars {
+        if wide(p.var().0) < d.vars {
             return assignment::enqueue(d, h, work, p, from);
         }
     }

@@ -6,6 +6,7 @@ use mathlib.Core.List.{List, [], _∷_, _++_}
 use lib.ListN.{length, getD, set, take, drop, replicate}
 use lib.Dec.{ltb}
 use Rattle.region.specs.Split.{split, total, put}
+use Rattle.model.specs.Limits.{max-variables}
 use Rattle.model.specs.Lit.{var, sign, l-undef, no-reason}
 use Rattle.model.specs.State.{VarState, initial-state, decision-level}
 use Rattle.model.specs.Trail.{unchecked-enqueue, new-decision-level, vars-until, unset, save, saved-part, level-end}
@@ -79,7 +80,7 @@ view d h w = pack h (split (shape d) w)
 -- the sizes fit a slice of n cells
 pub record Room (d : TrailSize) (n : ℕ) : Type 0 where
   pub fits : total (shape d) ≤ n
-  pub vars : d .vars ≤ 4096
+  pub vars : d .vars ≤ max-variables
 
 pub record Counts (d : TrailSize) (h : TrailHead) : Type 0 where
   pub assigned : h .assigned ≤ d .vars

@@ -6,7 +6,10 @@ ghost use Rattle.region.specs.Split.{split};
 ghost use Rattle.model.specs.Lit.{var, value-lit};
 ghost use Rattle.trail.specs.View.{shape, Room, Rep, Holds, view, initial-assignment, enqueued, next-level, until, Undoable, LitsOf, saves, undone, cleared};
 use clause::Lit;
+use clause::NO_REASON;
+use clause::UNDEF;
 use clause::Var;
+use clause::wide;
 
 // What never changes: how many variables there are.
 pub struct TrailSize {
@@ -101,13 +104,13 @@ pub fn unchecked_enqueue(d: TrailSize, h: TrailHead, s: &mut [u32], p: Lit, from
     let n = d.vars;
     let t = h.assigned;
     let k = h.levels;
-    let x = p.0;
-    let v = (x / 2) as usize;
+    let v = wide(p.var().0);
+    let sign = p.sign();
     let reasons = 2 * n;
-    s[v] = x % 2;
+    s[v] = sign;
     s[n + v] = k as u32;
     s[reasons + v] = from;
-    s[4 * n + t] = x;
+    s[4 * n + t] = p.0;
     TrailHead {
         assigned: t + 1,
         levels: k,
@@ -128,12 +131,6 @@ pub fn new_decision_level(d: TrailSize, h: TrailHead, s: &mut [u32]) -> TrailHea
         assigned: t,
         levels: k + 1,
     }
-}
-
-fn wide(x: u32) -> usize
-    ensures { λ r. ⌜ r ≡ x ⌝ }
-{
-    x as usize
 }
 
 // Whether the sign of the literal at place c of the trail is saved.
@@ -159,12 +156,13 @@ fn undo_last(d: TrailSize, h: TrailHead, s: &mut [u32], phase: u32, last: usize)
     let n = d.vars;
     let k = h.levels;
     let c = h.assigned - 1;
-    let p = s[4 * n + c];
-    let v = (p / 2) as usize;
+    let p = Lit(s[4 * n + c]);
+    let v = wide(p.var().0);
+    let sign = p.sign();
     let save = saves_phase(phase, last, c);
-    s[v] = 2;
+    s[v] = UNDEF;
     if save {
-        s[3 * n + v] = p % 2;
+        s[3 * n + v] = sign;
     }
     TrailHead {
         assigned: c,
@@ -203,9 +201,9 @@ fn clear_var(d: TrailSize, s: &mut [u32], v: usize)
     ensures { λ _. ⌜ split (shape d) (now (s .exit)) ≡ cleared v (split (shape d) (now (s .entry))) ⌝ }
 {
     let n = d.vars;
-    s[v] = 2;
+    s[v] = UNDEF;
     s[n + v] = 0;
-    s[2 * n + v] = 4294967295;
+    s[2 * n + v] = NO_REASON;
     s[3 * n + v] = 1;
 }
 

@@ -5,6 +5,9 @@ use borrow.Author.Needs.{needs}
 use Rattle.activity.proofs.bump.Statement.{statement}
 use Rattle.activity.proofs.bump.Tie as tie
 
+cast-i : tie.Need-cast-i
+cast-i c = search needs
+
 mul-x : tie.Need-mul-x
 mul-x c = search needs
 
@@ -25,22 +28,23 @@ same-length c = c .before .before .rescale .kept .0 ∙ simp length-set
 
 returns : tie.Need-returns
 returns c =
-    let a = c .before .before .before .before .before .before .before .args in
+    let a = c .before .before .before .before .before .before .before .before .args in
     ap (λ acts. activity acts (scaled (a .inc))) (c .before .before .rescale .ensures)
-    ∙ bump-over (a .act .now) (a .inc) (a .v) (c .before .before .before .before .if1 .taken)
+    ∙ bump-over (a .act .now) (a .inc) (a .v .0) (c .before .before .before .before .if1 .taken)
 
 same-length-2 : tie.Need-same-length-2
 same-length-2 c = search needs
 
 returns-2 : tie.Need-returns-2
 returns-2 c =
-    let a = c .before .before .before .args in
-    bump-under (a .act .now) (a .inc) (a .v) (c .if1 .left)
+    let a = c .before .before .before .before .args in
+    bump-under (a .act .now) (a .inc) (a .v .0) (c .if1 .left)
 
 pub bump-spec : {M : Type 1} → statement M
 bump-spec =
     tie.close
     (tie.spec
+    cast-i
     mul-x
     slice-read-x
     mul-act

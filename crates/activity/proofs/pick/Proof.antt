@@ -5,7 +5,7 @@ use mathlib.Core.Option.{none, some}
 use lib.ListN.{length, drop}
 use denote.Ref.{now}
 use Rattle.model.specs.Decide.{pick}
-use Rattle.activity.specs.Pick.{below-some, pick-more, pick-last}
+use Rattle.activity.specs.Pick.{pick-more, pick-last}
 use Rattle.activity.specs.Leading.{Leads, none-unset, from-first}
 use borrow.Author.Needs.{needs}
 use Rattle.activity.proofs.pick.Statement.{statement}
@@ -13,7 +13,7 @@ use Rattle.activity.proofs.pick.Tie as tie
 
 abbrev Inv-loop : tie.InvT-loop
 Inv-loop values act n k b₀ i₀ b i =
-    (n ≡ length values) × (i ≤ n) × Leads act values b × (pick act (some (b .var)) i (drop i values) ≡ pick act none 0 values)
+    (n ≡ length values) × (i ≤ n) × Leads act values b × (pick act (some (b .var .0)) i (drop i values) ≡ pick act none 0 values)
 
 abbrev μ-loop : tie.MeasureT-loop
 μ-loop values act n k b₀ i₀ b i = n - i
@@ -26,13 +26,16 @@ returns c =
     let a = c .before .before .before .before .args in
     none-unset (now (a .act)) (now (a .values)) _ (c .before .first-unset .ensures) (c .if1 .taken)
 
-mul-t8 : tie.Need-mul-t8 Inv-loop μ-loop
-mul-t8 c = search needs
+cast-t9 : tie.Need-cast-t9 Inv-loop μ-loop
+cast-t9 c = omega (arith, c .before .first-unset .ensures .within, c .before .before .before .before .pre .most)
 
-shared-slice-read-t10 : tie.Need-shared-slice-read-t10 Inv-loop μ-loop
-shared-slice-read-t10 c =
+mul-t11 : tie.Need-mul-t11 Inv-loop μ-loop
+mul-t11 c = search needs
+
+shared-slice-read-t13 : tie.Need-shared-slice-read-t13 Inv-loop μ-loop
+shared-slice-read-t13 c =
     let f = c .before .before .first-unset .ensures in
-    omega (arith, f .within, c .before .before .before .before .before .pre)
+    omega (arith, f .within, c .before .before .before .before .before .pre .fits)
 
 add-i : tie.Need-add-i Inv-loop μ-loop
 add-i c =
@@ -66,10 +69,9 @@ loop-again c =
 
 returns-2 : tie.Need-returns-2 Inv-loop μ-loop
 returns-2 c =
-    let l = c .before .loop in
-    let a = c .before .before .before .before .before .before .before .args in
-    below-some (length (now (a .values))) (l .b .var) (l .inv .2 .var)
-    ∙ sym (pick-last (now (a .act)) (now (a .values)) (some (l .b .var)) (l .i) (omega arith))
+    let l = c .before .before .loop in
+    let a = c .before .before .before .before .before .before .before .before .args in
+    sym (pick-last (now (a .act)) (now (a .values)) (some (l .b .var .0)) (l .i) (omega arith))
     ∙ l .inv .3
 
 pub pick-spec : {M : Type 1} → statement M
@@ -80,8 +82,9 @@ pick-spec =
     μ-loop
     first-unset-requires
     returns
-    mul-t8
-    shared-slice-read-t10
+    cast-t9
+    mul-t11
+    shared-slice-read-t13
     add-i
     loop-holds
     better-requires

@@ -5,8 +5,14 @@ use borrow.Author.Needs.{needs}
 use Rattle.trail.proofs.unchecked_enqueue.Statement.{statement}
 use Rattle.trail.proofs.unchecked_enqueue.Tie as tie
 
-cast-v : tie.Need-cast-v
-cast-v c = search needs
+var-requires : tie.Need-var-requires
+var-requires c κs = search needs
+
+wide-requires : tie.Need-wide-requires
+wide-requires c κs = search needs
+
+sign-requires : tie.Need-sign-requires
+sign-requires c κs = search needs
 
 mul-reasons : tie.Need-mul-reasons
 mul-reasons c = search needs
@@ -58,14 +64,17 @@ same-length c = search needs
 
 returns : tie.Need-returns
 returns c =
-    let a = c .args in
-    enqueue-holds (a .d) (a .h) (a .s .now) (c .pre .0) (a .p .0) (a .from) (c .pre .1 .0) (c .pre .1 .1)
+    let a = c .before .before .before .before .args in
+    let p = c .before .before .before .before .pre in
+    rw (c .before .wide .ensures, c .before .before .var .ensures, c .sign .ensures) (enqueue-holds (a .d) (a .h) (a .s .now) (p .0) (a .p .0) (a .from) (p .1 .0) (p .1 .1))
 
 pub unchecked-enqueue-spec : {M : Type 1} → statement M
 unchecked-enqueue-spec =
     tie.close
     (tie.spec
-    cast-v
+    var-requires
+    wide-requires
+    sign-requires
     mul-reasons
     mul-s
     slice-write-s

@@ -6,7 +6,7 @@ use std::time::Instant;
 
 #[link(name = "leafbench", kind = "static")]
 extern "C" {
-    fn leaf_trail(work: *mut u32, len: usize, order: *const u32, order_len: usize, n: u32) -> usize;
+    fn leaf_trail(work: *mut u32, len: usize, order: *const u32, order_len: usize, n: u32) -> u64;
     fn leaf_watch(work: *mut u32, len: usize, order: *const u32, order_len: usize, n: u32) -> u64;
 }
 
@@ -97,18 +97,20 @@ impl Core {
 #[inline(never)]
 fn rust_trail(order: &[u32], n: u32, phase: u32) -> usize {
     let mut s = Core::new(64);
+    let mut k = 0;
     for _ in 0..n {
         s.limits.push(s.trail.len() as i32);
         for &p in order {
             s.enqueue(p, 0);
         }
+        k += s.trail.len();
         s.cancel_until(0, phase);
     }
     black_box(&s.data[0].reason);
     black_box(&s.data[0].level);
     black_box(&s.polarity);
     black_box(&s.qhead);
-    s.trail.len()
+    k
 }
 
 #[inline(never)]
@@ -136,7 +138,7 @@ fn main() {
     let order = black_box(order);
     let t = Instant::now();
     let (ops, got) = match (args[1].as_str(), args[2].as_str()) {
-        ("rattle", "trail") => (64, unsafe { leaf_trail(work.as_mut_ptr(), work.len(), order.as_ptr(), order.len(), turns) }),
+        ("rattle", "trail") => (64, unsafe { leaf_trail(work.as_mut_ptr(), work.len(), order.as_ptr(), order.len(), turns) } as usize),
         ("rattle", "watch") => (32, unsafe { leaf_watch(work.as_mut_ptr(), work.len(), order.as_ptr(), order.len(), turns) } as usize),
         ("rust", "trail") => (64, rust_trail(&order, turns, black_box(2))),
         ("rust", "watch") => (32, rust_watch(&order, turns) as usize),

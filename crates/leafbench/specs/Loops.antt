@@ -29,7 +29,8 @@ use Rattle.state.specs.ClauseLaws.{count-is, literals-is}
 use Rattle.state.specs.WatchSteps.{lists-count, blockers-count}
 use Rattle.tour.specs.Live.{Live}
 use Rattle.tour.specs.Steps.{Stage, stage, At, pick, lt-yes, lt-no, le-yes, eq-yes, eq-no, opened, placed, gone-back, three, added}
-use Rattle.leafbench.specs.Results.{filled, signs, hit-by, hits, trues, unless-short}
+use Rattle.leafbench.specs.Results.{filled, put-on, signs, hit-by, hits, trues, unless-short}
+use Rattle.leafbench.specs.declared.Turned.{Turned}
 
 -- ---- two tests in turn
 
@@ -81,6 +82,26 @@ module _ (d : Sizes) where
       ∙ filled-values u ps (omega arith)
       ∙ ap (λ (vs : List ℕ). signs (d .vars) vs ps) (pick-map (more t p) t (λ s. s .held .assignment .vars .values) b)
 
+  pub filled-put : (t : Stage) (ps : List ℕ) → filled d t ps .head .trail .assigned ≡ put-on (d .vars) (t .head .trail .assigned) ps
+  unfolding filled put-on
+  filled-put t [] = refl
+  filled-put t (p ∷ ps) =
+      let on : Stage → ℕ = λ s. s .head .trail .assigned in
+      let inner = pick (ltb (var p) (d .vars)) (more t p) t in
+      filled-put (put t p) ps
+      ∙ ap (λ (k : ℕ). put-on (d .vars) k ps) (pick-map inner t on (ltb (on t) (d .vars)) ∙ ap (λ (k : ℕ). pick (ltb (on t) (d .vars)) k (on t)) (pick-map (more t p) t on (ltb (var p) (d .vars))))
+
+  put-most : (k : ℕ) (ps : List ℕ) → put-on (d .vars) k ps ≤ k + length ps
+  unfolding put-on
+  put-most k [] = omega arith
+  put-most k (p ∷ ps) =
+      let j = pick (ltb k (d .vars)) (pick (ltb (var p) (d .vars)) (k + 1) k) k in
+      let b : j ≤ k + 1 = picked (k + 1) k (λ i. i ≤ k + 1) (ltb k (d .vars)) (ltb (var p) (d .vars)) (omega arith) (omega arith) in
+      omega (arith, put-most j ps)
+
+  pub put-bound : (order : List ℕ) → put-on (d .vars) 0 (take 64 order) ≤ 64
+  put-bound order = omega (arith, put-most 0 (take 64 order), length-take 64 order)
+
   pub filled-none : (t : Stage) (ps : List ℕ) → length ps ≡ 0 → filled d t ps ≡ t
   unfolding filled
   filled-none t [] e = refl
@@ -98,6 +119,12 @@ module _ (d : Sizes) where
       ∙ ap (filled d (stage r (whole d r w))) (sym (drop-cons ps i 0 (omega arith)))
 
 -- ---- a level is opened, filled and taken back
+
+-- the trail is empty again, after n literals in all
+pub record Turns (d : Sizes) (n : ℕ) (r : Turned) (w : List ℕ) : Type 0 where
+  pub live : Live d (r .head) w
+  pub none : r .head .trail ≡ counts 0 0
+  pub put : r .put ≡ n
 
 module _ {d : Sizes} {h a b r : Header} {w w₁ w₂ w₃ : List ℕ} (ps : List ℕ) (v : Live d h w) (none : h .trail ≡ counts 0 0) (opens : At d a w₁ (opened d h (whole d h w)))
     (fills : At d b w₂ (filled d (stage a (whole d a w₁)) ps)) (backs : At d r w₃ (gone-back d b (whole d b w₂) 0 2)) where
@@ -135,6 +162,12 @@ module _ {d : Sizes} {h a b r : Header} {w w₁ w₂ w₃ : List ℕ} (ps : List
       ∙ filled-keeps d (λ t. t .head .trail .levels) (λ t p. refl) (stage a (whole d a w₁)) ps
       ∙ ap (λ (t : Stage). t .head .trail .levels) is-open
       ∙ omega (arith, levels-none)
+
+  pub turn-put : b .trail .assigned ≡ put-on (d .vars) 0 ps
+  turn-put =
+      ap (λ (t : Stage). t .head .trail .assigned) (fills .stage)
+      ∙ filled-put d (stage a (whole d a w₁)) ps
+      ∙ ap (λ (k : ℕ). put-on (d .vars) k ps) (ap (λ (t : Stage). t .head .trail .assigned) is-open ∙ assigned-none)
 
   pub turned : r .trail ≡ counts 0 0
   turned =

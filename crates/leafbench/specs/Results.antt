@@ -13,6 +13,11 @@ unfoldable pub filled : Sizes → Stage → List ℕ → Stage
 filled d t [] = t
 filled d t (p ∷ ps) = filled d (placed d (t .head) (t .held) p 0) ps
 
+-- how many literals are on the trail of n variables where there were k, and the literals ps are put on it: one past the variables is not, nor any where it is full
+unfoldable pub put-on : ℕ → ℕ → List ℕ → ℕ
+put-on n k [] = k
+put-on n k (p ∷ ps) = put-on n (pick (ltb k n) (pick (ltb (var p) n) (k + 1) k) k) ps
+
 -- the values of n variables, with the literals ps made true
 unfoldable pub signs : ℕ → List ℕ → List ℕ → List ℕ
 signs n vs [] = vs
@@ -38,9 +43,9 @@ module _ {A : Type 0} (m n : ℕ) where
   abbrev pub unless-short : A → A → A
   unless-short refused x = pick (ltb m 1986) refused (pick (ltb n 64) refused x)
 
--- a level that was opened, filled and taken back leaves nothing on the trail
-abbrev pub leaf-trail : ℕ → ℕ → ℕ
-leaf-trail m n = unless-short m n 1 0
+-- k levels, each from an empty trail
+abbrev pub leaf-trail : ℕ → List ℕ → ℕ → ℕ
+leaf-trail m order k = unless-short m (length order) 0 (k * put-on 64 0 (take 64 order))
 
 -- k walks of the 32 watches with the blockers 2, 4 .. 64
 abbrev pub leaf-watch : ℕ → List ℕ → ℕ → ℕ

@@ -7,9 +7,11 @@ ghost use Rattle.state.specs.View.{Rep, whole};
 ghost use Rattle.state.specs.AssignmentLaws.{counts};
 ghost use Rattle.tour.specs.Live.{Live};
 ghost use Rattle.tour.specs.Steps.{At, stage};
-ghost use Rattle.leafbench.specs.Results.{filled, hit-by, hits, leaf-trail, leaf-watch, leaf-work};
-ghost use Rattle.leafbench.specs.Loops.{Ample, Row};
+ghost use Rattle.leafbench.specs.Results.{filled, put-on, hit-by, hits, leaf-trail, leaf-watch, leaf-work};
+ghost use Rattle.leafbench.specs.Loops.{Turns, Ample, Row};
 use clause::Lit;
+use clause::TRUE;
+use clause::wide;
 use state::Header;
 use state::Sizes;
 use state::assignment;
@@ -30,27 +32,40 @@ fn fill(d: Sizes, h: Header, work: &mut [u32], order: &[u32]) -> Header
     r
 }
 
+// The header after some turns, and how many literals were put on the trail in them.
+pub struct Turned {
+    pub head: Header,
+    pub put: u64,
+}
+
 // A level is opened, filled and taken back.
-fn turn(d: Sizes, h: Header, work: &mut [u32], order: &[u32]) -> Header
+fn turn(d: Sizes, h: Header, work: &mut [u32], order: &[u32], put: u64) -> Turned
     requires { ⌜ Live d h (now work) × (h .trail ≡ counts 0 0) ⌝ }
     requires { ⌜ 64 ≤ length (now order) ⌝ }
-    ensures { λ r. ⌜ Live d r (now (work .exit)) × (r .trail ≡ counts 0 0) ⌝ }
+    requires { ⌜ put ≤ 549755813888 ⌝ }
+    ensures { λ r. ⌜ Turns d (put + put-on (d .vars) 0 (take 64 (now (order .entry)))) r (now (work .exit)) ⌝ }
 {
     let a = tour::open(d, h, work);
     let b = fill(d, a, work, order);
-    tour::back(d, b, work, 0, 2)
+    let k = b.trail.assigned as u64;
+    let r = tour::back(d, b, work, 0, 2);
+    Turned {
+        head: r,
+        put: put + k,
+    }
 }
 
-fn turns(d: Sizes, h: Header, work: &mut [u32], order: &[u32], n: u32) -> Header
+fn turns(d: Sizes, h: Header, work: &mut [u32], order: &[u32], n: u32) -> u64
     requires { ⌜ Live d h (now work) × (h .trail ≡ counts 0 0) ⌝ }
     requires { ⌜ 64 ≤ length (now order) ⌝ }
-    ensures { λ r. ⌜ Live d r (now (work .exit)) × (r .trail ≡ counts 0 0) ⌝ }
+    ensures { λ r. ⌜ r ≡ n * put-on (d .vars) 0 (take 64 (now (order .entry))) ⌝ }
 {
-    let mut r = h;
+    let mut r = Turned { head: h, put: 0 };
     for i in 0..n {
-        r = turn(d, r, work, order);
+        let a = r.head;
+        r = turn(d, a, work, order, r.put);
     }
-    r
+    r.put
 }
 
 // 32 clauses whose first literal is 0.
@@ -73,8 +88,8 @@ fn count_true(d: Sizes, h: Header, work: &[u32], x: usize, n: u64) -> u64
     ensures { λ r. ⌜ r ≡ n + hit-by d (whole d h (now (work .entry))) (getD (whole d h (now (work .entry)) .watches .blockers) x 0) ⌝ }
 {
     let b = watches::blocker(d, h, work, x);
-    if ((b.0 / 2) as usize) < d.vars {
-        if assignment::value(d, h, work, b) == 0 {
+    if wide(b.var().0) < d.vars {
+        if assignment::value(d, h, work, b) == TRUE {
             return n + 1;
         }
     }
@@ -109,17 +124,17 @@ fn walks(d: Sizes, h: Header, work: &[u32], l: Lit, n: u32) -> u64
     k
 }
 
-// n levels, each filled and taken back: how many literals are then on the trail. With 64 variables; a short slice is refused. The slice is left zero.
+// n levels, each filled with the literals of `order` and taken back: how many literals were put on the trail. With 64 variables. The slice is left zero.
 #[no_mangle]
-pub extern "C" fn leaf_trail(work: &mut [u32], order: &[u32], n: u32) -> usize
-    ensures { λ r. ⌜ r ≡ leaf-trail (length (now (work .entry))) (length (now (order .entry))) ⌝ }
+pub extern "C" fn leaf_trail(work: &mut [u32], order: &[u32], n: u32) -> u64
+    ensures { λ r. ⌜ r ≡ leaf-trail (length (now (work .entry))) (now (order .entry)) n ⌝ }
     ensures { λ r. ⌜ now (work .exit) ≡ leaf-work (now (work .entry)) (length (now (order .entry))) ⌝ }
 {
     if work.len() < 1986 {
-        return 1;
+        return 0;
     }
     if order.len() < 64 {
-        return 1;
+        return 0;
     }
     let d = Sizes {
         vars: 64,
@@ -127,9 +142,9 @@ pub extern "C" fn leaf_trail(work: &mut [u32], order: &[u32], n: u32) -> usize
         lit_room: 256,
     };
     let h = tour::begin(d, work);
-    let r = turns(d, h, work, order, n);
+    let k = turns(d, h, work, order, n);
     start::clear(work);
-    r.trail.assigned
+    k
 }
 
 // n walks of a list of 32 nodes, where the literals of `order` are true: how many true blockers were met. The slice is left zero.

@@ -2,7 +2,6 @@ use Prim.Native.Nat.{_≤_}
 use native.Mathlib.Omega.{arith}
 use mathlib.Core.Path.{_≡_, sym, ap, _∙_}
 use lib.ListN.{length, replicate}
-use Rattle.trail.specs.declared.TrailHead.{TrailHead}
 use Rattle.leafbench.specs.Loops.{begun-trail, short-work, short-order, long-enough}
 use borrow.Author.Needs.{needs}
 use Rattle.leafbench.proofs.leaf_trail.Statement.{statement}
@@ -41,7 +40,7 @@ returns-3 c =
     let g : 1986 ≤ m = omega (arith, c .before .before .before .before .before .before .before .before .before .before .before .before .before .if1 .left) in
     let h : 64 ≤ n = omega (arith, c .before .before .before .before .before .before .before .before .before .before .before .before .if2 .left) in
     let size : length (c .before .before .before .before .before .before .turns .last .1 .1 .0) ≡ m = c .before .before .before .before .before .before .turns .kept .1 .1 .0 ∙ c .before .before .before .before .before .before .before .before .before .before .begin .kept .1 .0 in
-    (ap (λ (t : TrailHead). t .assigned) (c .before .before .before .before .before .before .turns .ensures .1) ∙ sym (long-enough m n _ _ g h), c .before .before .clear .ensures ∙ ap (λ k. replicate k 0) size ∙ sym (long-enough m n _ _ g h))
+    (c .before .before .before .before .before .before .turns .ensures ∙ sym (long-enough m n _ _ g h), c .before .before .clear .ensures ∙ ap (λ k. replicate k 0) size ∙ sym (long-enough m n _ _ g h))
 
 pub leaf-trail-spec : {M : Type 1} → statement M
 leaf-trail-spec =

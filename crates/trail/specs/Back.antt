@@ -128,6 +128,13 @@ module _ (d : TrailSize) (h : TrailHead) (w : List ℕ) (r : Rep d h w) (g : Lit
       (e2 ∙ ap (λ qs. put qs 3 v (sign p)) e1) (values-set (getD ps 0 []) v 2 (omega arith) (r .values))
       (rw (trail-length d h w r, ← trail-read d h w r c (omega arith), s, take-take c (h .assigned) (getD ps 4 []) (omega arith)))
 
+  -- the same, where the sign is x
+  pub undone-saved-as : (phase last x : ℕ) → saves phase last (h .assigned - 1) ≡ true → x ≡ sign (getD w (4 * d .vars + (h .assigned - 1)) 0)
+      → Holds d (record { assigned = h .assigned - 1; levels = h .levels })
+      (set (set w (var (getD w (4 * d .vars + (h .assigned - 1)) 0)) 2) (3 * d .vars + var (getD w (4 * d .vars + (h .assigned - 1)) 0)) x)
+      (undone phase last (view d h w))
+  undone-saved-as phase last x s e = rw e (undone-saved phase last s)
+
   -- its value goes, and no sign is saved
   pub undone-unsaved : (phase last : ℕ) → saves phase last (h .assigned - 1) ≡ false
       → Holds d (record { assigned = h .assigned - 1; levels = h .levels })

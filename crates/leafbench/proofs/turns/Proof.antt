@@ -29,8 +29,7 @@ turn-requires c κs =
     let s = c .before .before .before .before .before .before in
     let v = c .before .before .before .loop in
     let turns : v .i ≤ 4294967295 = omega arith in
-    let low : v .r .put ≤ 549755813888 = omega (arith, v .inv .1 .put, mul-le-mul turns (put-bound (s .args .d) (s .args .order .now))) in
-    ((v .inv .1 .live, v .inv .1 .none), (s .pre .1, low))
+    ((v .inv .1 .live, v .inv .1 .none), (s .pre .1, omega (arith, v .inv .1 .put, mul-le-mul turns (put-bound (s .args .d) (s .args .order .now)))))
 
 add-i : tie.Need-add-i Inv-loop μ-loop
 add-i c = search needs

@@ -2,7 +2,7 @@ use Prim.Native.Nat.{_+_, _-_, _*_}
 use mathlib.Core.Path.{_∙_, sym}
 use native.Mathlib.Omega.{arith}
 use lib.ListN.{length-set}
-use Rattle.trail.specs.Back.{last-var, undone-saved, undone-unsaved}
+use Rattle.trail.specs.Back.{last-var, undone-saved-as, undone-unsaved}
 use borrow.Author.Needs.{needs}
 use Rattle.trail.proofs.undo_last.Statement.{statement}
 use Rattle.trail.proofs.undo_last.Tie as tie
@@ -68,8 +68,8 @@ same-length c = search needs
 returns : tie.Need-returns
 returns c =
     let a = c .before .before .before .before .before .before .before .before in
-    rw (c .before .before .before .wide .ensures, c .before .before .before .before .var .ensures, c .before .before .sign .ensures)
-    (undone-saved (a .args .d) (a .args .h) (a .args .s .now) (a .pre .0) (a .pre .1 .0) (a .pre .1 .1) (a .args .phase) (a .args .last) (sym (c .before .saves-phase .ensures) ∙ c .if1 .taken))
+    rw (c .before .before .before .wide .ensures, c .before .before .before .before .var .ensures)
+    (undone-saved-as (a .args .d) (a .args .h) (a .args .s .now) (a .pre .0) (a .pre .1 .0) (a .pre .1 .1) (a .args .phase) (a .args .last) _ (sym (c .before .saves-phase .ensures) ∙ c .if1 .taken) (c .before .before .sign .ensures))
 
 same-length-2 : tie.Need-same-length-2
 same-length-2 c = search needs

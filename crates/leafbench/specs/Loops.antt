@@ -17,8 +17,6 @@ use Rattle.lawbase.specs.Basics.{split, less?}
 use Rattle.trail.specs.View.{Assignment, enqueued, next-level}
 use Rattle.trail.specs.declared.TrailHead.{TrailHead}
 use Rattle.watch.specs.View.{Watches, list-of, appended, attached}
-use Rattle.watch.specs.Walk.{Stands, rest-of, rest-cons, stands-cur}
-use Rattle.watch.specs.declared.Cursor.{Cursor}
 use Rattle.state.specs.declared.Sizes.{Sizes}
 use Rattle.state.specs.declared.Header.{Header}
 use Rattle.state.specs.View.{Whole, whole, with-assignment, Rep}
@@ -338,14 +336,12 @@ module _ (d : Sizes) (x : Whole) where
   hits-none [] e = refl
   hits-none (y ∷ ys) e = absurd (let z : suc (length ys) ≡ 0 = e in omega arith)
 
-  pub walked-on : (xs : List ℕ) (c r : Cursor) → Stands c xs → suc (r .left) ≡ c .left
-      → hits d x (rest-of (c .left) xs) ≡ hit-by d x (getD (x .watches .blockers) (c .cur) 0) + hits d x (rest-of (r .left) xs)
+  pub walked-on : (xs : List ℕ) (i y : ℕ) → i < length xs → y ≡ getD xs i 0 → hits d x (drop i xs) ≡ hit-by d x (getD (x .watches .blockers) y 0) + hits d x (drop (i + 1) xs)
   unfolding hits
-  walked-on xs c r k e =
-      let cur : c .cur ≡ getD xs (length xs - suc (r .left)) 0 = stands-cur c xs k (omega arith) ∙ ap (λ n. getD xs (length xs - n) 0) (sym e) in
-      ap (λ n. hits d x (rest-of n xs)) (sym e)
-      ∙ ap (hits d x) (rest-cons (r .left) xs (omega (arith, k .inside)) 0)
-      ∙ ap (λ y. hit-by d x (getD (x .watches .blockers) y 0) + hits d x (rest-of (r .left) xs)) (sym cur)
+  walked-on xs i y h e =
+      ap (hits d x) (drop-cons xs i 0 h)
+      ∙ ap (λ z. hit-by d x (getD (x .watches .blockers) z 0) + hits d x (drop (suc i) xs)) (sym e)
+      ∙ ap (λ m. hit-by d x (getD (x .watches .blockers) y 0) + hits d x (drop m xs)) (let n : suc i ≡ i + 1 = omega arith in n)
 
   -- the blocker b of node y
   module _ (b y : ℕ) (e : b ≡ getD (x .watches .blockers) y 0) where
@@ -375,14 +371,14 @@ module _ (d : Sizes) (x : Whole) where
 -- ---- the answers
 
 module _ {A : Type 0} (m n : ℕ) (refused x : A) where
-  pub short-work : m < 1986 → unless-short m n refused x ≡ refused
-  short-work g = lt-yes _ _ m 1986 g
+  pub short-work : m < 2114 → unless-short m n refused x ≡ refused
+  short-work g = lt-yes _ _ m 2114 g
 
-  pub short-order : 1986 ≤ m → n < 64 → unless-short m n refused x ≡ refused
-  short-order g h = lt-no _ _ m 1986 g ∙ lt-yes _ _ n 64 h
+  pub short-order : 2114 ≤ m → n < 64 → unless-short m n refused x ≡ refused
+  short-order g h = lt-no _ _ m 2114 g ∙ lt-yes _ _ n 64 h
 
-  pub long-enough : 1986 ≤ m → 64 ≤ n → unless-short m n refused x ≡ x
-  long-enough g h = lt-no _ _ m 1986 g ∙ lt-no _ _ n 64 h
+  pub long-enough : 2114 ≤ m → 64 ≤ n → unless-short m n refused x ≡ x
+  long-enough g h = lt-no _ _ m 2114 g ∙ lt-no _ _ n 64 h
 
 -- the watches that were laid out, once the literals ps are on the trail
 module _ {d : Sizes} {h a b : Header} {w₀ w w₁ w₂ : List ℕ} (ps : List ℕ) (k : Started d h w₀ w) (ample : Ample d) (row : Row d h (whole d h w) a w₁ 32)

@@ -104,10 +104,10 @@ fn walk(d: Sizes, h: Header, work: &[u32], l: Lit, n: u64) -> u64
 {
     let mut k = n;
     let mut c = watches::walk(d, h, work, l);
-    while 0 < c.left {
-        let x = c.cur;
+    while watches::more(d, h, work, l, c) {
+        let x = watches::node(d, h, work, l, c);
         k = count_true(d, h, work, x, k);
-        c = watches::stay(d, h, work, l, c);
+        c = watches::stay(d, h, work, l, c, x);
     }
     k
 }
@@ -130,7 +130,7 @@ pub extern "C" fn leaf_trail(work: &mut [u32], order: &[u32], n: u32) -> u64
     ensures { λ r. ⌜ r ≡ leaf-trail (length (now (work .entry))) (now (order .entry)) n ⌝ }
     ensures { λ r. ⌜ now (work .exit) ≡ leaf-work (now (work .entry)) (length (now (order .entry))) ⌝ }
 {
-    if work.len() < 1986 {
+    if work.len() < 2114 {
         return 0;
     }
     if order.len() < 64 {
@@ -153,7 +153,7 @@ pub extern "C" fn leaf_watch(work: &mut [u32], order: &[u32], n: u32) -> u64
     ensures { λ r. ⌜ r ≡ leaf-watch (length (now (work .entry))) (now (order .entry)) n ⌝ }
     ensures { λ r. ⌜ now (work .exit) ≡ leaf-work (now (work .entry)) (length (now (order .entry))) ⌝ }
 {
-    if work.len() < 1986 {
+    if work.len() < 2114 {
         return 0;
     }
     if order.len() < 64 {

@@ -17,7 +17,6 @@ use Rattle.trail.specs.View.{enqueued}
 use Rattle.store.specs.View.{Clauses, clause-of, lit-set, written}
 use Rattle.store.specs.Cells.{Lies, written-set}
 use Rattle.watch.specs.View.{list-of, blocked}
-use Rattle.watch.specs.Walk.{Stands}
 use Rattle.watch.specs.declared.Cursor.{Cursor}
 use Rattle.state.specs.declared.Sizes.{Sizes}
 use Rattle.state.specs.declared.Header.{Header}
@@ -25,11 +24,11 @@ use Rattle.state.specs.View.{Whole, whole, Rep, Holds, with-assignment, with-wa
 use Rattle.state.specs.ClauseLaws.{clause-inside}
 use Rattle.state.specs.WatchSteps.{cursor-low}
 use Rattle.watching.specs.Look.{Found, nowhere, at-place, found}
-use Rattle.state.specs.WatchLaws.{Gone}
+use Rattle.state.specs.WatchLaws.{On, More, node-at, Gone}
 use Rattle.state.specs.Laws.{with-trail}
 use Rattle.state.specs.AssignmentLaws.{counts}
 use Rattle.propagate.specs.declared.Step.{Step}
-use Rattle.propagate.specs.View.{put-clause, place-of, Paired, Passed, at-cursor, exchanged, Settles, sets, Looks, passes, moves, settles}
+use Rattle.propagate.specs.View.{put-clause, place-of, Paired, Passed, at-node, exchanged, Settles, sets, Looks, passes, moves, settles}
 
 -- ---- literals of a clause set
 
@@ -146,43 +145,43 @@ place-inside values l k e = go (new-watch values 2 (drop 2 l)) (found values 2 (
 
 -- ---- a cursor
 
-module _ (d : Sizes) (h : Header) (w : List ℕ) (r : Rep d h w) (p : ℕ) (hp : p < 2 * d .vars) (c : Cursor) (a : Stands c (list-of (whole d h w .watches) p)) (more : 0 < c .left) where
-  pub cursor-room : c .cur < 2 * d .room
-  cursor-room = cursor-low d h w r p hp c a (c .left - 1) (omega arith)
+-- the node at it is of a clause that can be stored
+pub cursor-room : (d : Sizes) (h : Header) (w : List ℕ) → Rep d h w → (p : ℕ) → p < 2 * d .vars → (c : Cursor) → More p c (whole d h w) → (y : ℕ) → y ≡ node-at p c (whole d h w) → y < 2 * d .room
+cursor-room d h w r p hp c more y e = rw e (cursor-low d h w r p hp c more)
 
--- a new blocker leaves a cursor where it is
-pub blocked-stands : {d : Sizes} {h : Header} {w : List ℕ} (x : Whole) (y b p : ℕ) {c : Cursor} → Holds d h w (with-watches x (blocked y b (x .watches)))
-    → Stands c (list-of (x .watches) p) → Stands c (list-of (whole d h w .watches) p)
+-- a new blocker leaves it where it is: P says what is asked of the list
+pub blocked-list : {d : Sizes} {h : Header} {w : List ℕ} (P : List ℕ → Type 0) (x : Whole) (y b p : ℕ) → Holds d h w (with-watches x (blocked y b (x .watches)))
+    → P (list-of (x .watches) p) → P (list-of (whole d h w .watches) p)
 unfolding blocked
-blocked-stands {d} {h} {w} x y b p {c} k a = subst (λ (z : Whole). Stands c (list-of (z .watches) p)) (sym (k .whole)) a
+blocked-list P x y b p k a = subst (λ (z : Whole). P (list-of (z .watches) p)) (sym (k .whole)) a
 
 -- nor do clauses that change
-pub clause-stands : {d : Sizes} {h : Header} {w : List ℕ} (x : Whole) (s : Clauses) (p : ℕ) {c : Cursor} → Holds d h w (with-clauses x s)
-    → Stands c (list-of (x .watches) p) → Stands c (list-of (whole d h w .watches) p)
-clause-stands x s p {c} k a = subst (λ (z : Whole). Stands c (list-of (z .watches) p)) (sym (k .whole)) a
+pub clause-list : {d : Sizes} {h : Header} {w : List ℕ} (P : List ℕ → Type 0) (x : Whole) (s : Clauses) (p : ℕ) → Holds d h w (with-clauses x s)
+    → P (list-of (x .watches) p) → P (list-of (whole d h w .watches) p)
+clause-list P x s p k a = subst (λ (z : Whole). P (list-of (z .watches) p)) (sym (k .whole)) a
 
 -- ---- a watch that goes
 
-pub exchange : (x : Whole) {y z : Whole} (c : Cursor) (p k l f : ℕ) → Lies (x .clauses) (c .cur / 2) → k < length (at-cursor x c) → 2 ≤ length (at-cursor x c) → l ≡ getD (at-cursor x c) k 0 → f ≡ neg p
-    → y ≡ with-clauses x (lit-set (x .clauses) (c .cur / 2) 1 l) → z ≡ with-clauses y (lit-set (y .clauses) (c .cur / 2) k f) → z ≡ exchanged x c p k
-exchange x c p k l f lies inside two el ef ey ez =
+pub exchange : (x : Whole) {y z : Whole} (m p k l f : ℕ) → Lies (x .clauses) (m / 2) → k < length (at-node x m) → 2 ≤ length (at-node x m) → l ≡ getD (at-node x m) k 0 → f ≡ neg p
+    → y ≡ with-clauses x (lit-set (x .clauses) (m / 2) 1 l) → z ≡ with-clauses y (lit-set (y .clauses) (m / 2) k f) → z ≡ exchanged x m p k
+exchange x m p k l f lies inside two el ef ey ez =
     ez
-    ∙ set-twice x (c .cur / 2) 1 l (omega arith) ey lies k f inside
-    ∙ ap₂ (λ a b. with-clauses x (put-clause (x .clauses) (c .cur / 2) (set (set (at-cursor x c) 1 a) k b))) el ef
+    ∙ set-twice x (m / 2) 1 l (omega arith) ey lies k f inside
+    ∙ ap₂ (λ a b. with-clauses x (put-clause (x .clauses) (m / 2) (set (set (at-node x m) 1 a) k b))) el ef
 
-pub gone-as : {d : Sizes} {h : Header} {w : List ℕ} {p m n b : ℕ} {x y : Whole} {c r : Cursor} → Gone d h w p m b x c r → m ≡ n → x ≡ y → Gone d h w p n b y c r
-gone-as {d} {h} {w} {p} {b = b} {c = c} {r = r} g e f = subst₂ (λ (n : ℕ) (y : Whole). Gone d h w p n b y c r) e f g
+pub gone-as : {d : Sizes} {h : Header} {w : List ℕ} {p m n b : ℕ} {x y : Whole} {c : Cursor} → Gone d h w p m b x c → m ≡ n → x ≡ y → Gone d h w p n b y c
+gone-as {d} {h} {w} {p} {b = b} {c = c} g e f = subst₂ (λ (n : ℕ) (y : Whole). Gone d h w p n b y c) e f g
 
 -- ---- the first literal is false, or it is set
 
-pub sets-as : {d : Sizes} {h k : Header} {w w′ : List ℕ} {p q : ℕ} {x : Whole} {c r : Cursor} → is-false (x .assignment .vars .values) q ≡ false → Passed d h w p q x c r
-    → Holds d k w′ (with-assignment (whole d h w) (enqueued (whole d h w .assignment) q (c .cur / 2))) → k ≡ with-trail h (counts (h .trail .assigned + 1) (h .trail .levels))
-    → Settles d h w′ p q c x (record { head = k; cursor = r; clash = false })
-sets-as {p = p} {q = q} {c = c} {r = r} f u e ek =
+pub sets-as : {d : Sizes} {h k : Header} {w w′ : List ℕ} {p q y : ℕ} {x : Whole} {c r : Cursor} → is-false (x .assignment .vars .values) q ≡ false → Passed d h w p q x c y r
+    → Holds d k w′ (with-assignment (whole d h w) (enqueued (whole d h w .assignment) q (y / 2))) → k ≡ with-trail h (counts (h .trail .assigned + 1) (h .trail .levels))
+    → Settles d h w′ p q c y x (record { head = k; cursor = r; clash = false })
+sets-as {d} {p = p} {q = q} {y = y} {r = r} f u e ek =
     sets f
-    (record { rep = e .rep; whole = e .whole ∙ ap (λ (z : Whole). with-assignment z (enqueued (z .assignment) q (c .cur / 2))) (u .holds .whole) })
-    (subst (λ (z : Whole). Stands r (list-of (z .watches) p)) (sym (e .whole)) (u .stands))
-    (u .left) ek refl
+    (record { rep = e .rep; whole = e .whole ∙ ap (λ (z : Whole). with-assignment z (enqueued (z .assignment) q (y / 2))) (u .holds .whole) })
+    (subst (λ (z : Whole). On d p r z) (sym (e .whole)) (u .on))
+    (u .passed) ek refl
 
 -- ---- the cases of a clause that is looked at
 
@@ -194,17 +193,17 @@ module _ (values l : List ℕ) (two : 2 ≤ length l) (k n : ℕ) (ek : k ≡ pl
   pub not-found : n ≤ k → new-watch values 2 (drop 2 l) ≡ none
   not-found g = place-none values l two (omega arith)
 
-pub passes-as : {d : Sizes} {h : Header} {w : List ℕ} {p q : ℕ} {x : Whole} {c r : Cursor} → q ≡ getD (at-cursor x c) 0 0
-    → is-true (x .assignment .vars .values) (getD (at-cursor x c) 0 0) ≡ true → Passed d h w p q x c r → Looks d h w p c x (record { head = h; cursor = r; clash = false })
-passes-as {d} {h} {w} {p} {x = x} {c = c} {r = r} eq e k = passes e (subst (λ b. Passed d h w p b x c r) eq k) refl refl
+pub passes-as : {d : Sizes} {h : Header} {w : List ℕ} {p q y : ℕ} {x : Whole} {c r : Cursor} → q ≡ getD (at-node x y) 0 0
+    → is-true (x .assignment .vars .values) (getD (at-node x y) 0 0) ≡ true → Passed d h w p q x c y r → Looks d h w p c y x (record { head = h; cursor = r; clash = false })
+passes-as {d} {h} {w} {p} {y = y} {x = x} {c = c} {r = r} eq e k = passes e (subst (λ b. Passed d h w p b x c y r) eq k) refl refl
 
-pub moves-as : {d : Sizes} {h : Header} {w : List ℕ} {p q : ℕ} (x : Whole) {c r : Cursor} (k : ℕ) → q ≡ getD (at-cursor x c) 0 0
-    → is-true (x .assignment .vars .values) (getD (at-cursor x c) 0 0) ≡ false → new-watch (x .assignment .vars .values) 2 (drop 2 (at-cursor x c)) ≡ some k
-    → Gone d h w p (neg (getD (at-cursor x c) k 0)) q (exchanged x c p k) c r → Looks d h w p c x (record { head = h; cursor = r; clash = false })
-moves-as {d} {h} {w} {p} x {c} {r} k eq n e g =
-    moves k n e (subst (λ b. Gone d h w p (neg (getD (at-cursor x c) k 0)) b (exchanged x c p k) c r) eq g) refl refl
+pub moves-as : {d : Sizes} {h : Header} {w : List ℕ} {p q y : ℕ} (x : Whole) {c : Cursor} (k : ℕ) → q ≡ getD (at-node x y) 0 0
+    → is-true (x .assignment .vars .values) (getD (at-node x y) 0 0) ≡ false → new-watch (x .assignment .vars .values) 2 (drop 2 (at-node x y)) ≡ some k
+    → Gone d h w p (neg (getD (at-node x y) k 0)) q (exchanged x y p k) c → Looks d h w p c y x (record { head = h; cursor = c; clash = false })
+moves-as {d} {h} {w} {p} {y = y} x {c} k eq n e g =
+    moves k n e (subst (λ b. Gone d h w p (neg (getD (at-node x y) k 0)) b (exchanged x y p k) c) eq g) refl refl refl
 
-pub settles-as : {d : Sizes} {h : Header} {w : List ℕ} {p q : ℕ} {x : Whole} {c : Cursor} {r : Step} → q ≡ getD (at-cursor x c) 0 0
-    → is-true (x .assignment .vars .values) (getD (at-cursor x c) 0 0) ≡ false → new-watch (x .assignment .vars .values) 2 (drop 2 (at-cursor x c)) ≡ none
-    → Settles d h w p q c x r → Looks d h w p c x r
-settles-as {d} {h} {w} {p} {x = x} {c = c} {r = r} eq n e g = settles n e (subst (λ b. Settles d h w p b c x r) eq g)
+pub settles-as : {d : Sizes} {h : Header} {w : List ℕ} {p q y : ℕ} {x : Whole} {c : Cursor} {r : Step} → q ≡ getD (at-node x y) 0 0
+    → is-true (x .assignment .vars .values) (getD (at-node x y) 0 0) ≡ false → new-watch (x .assignment .vars .values) 2 (drop 2 (at-node x y)) ≡ none
+    → Settles d h w p q c y x r → Looks d h w p c y x r
+settles-as {d} {h} {w} {p} {y = y} {x = x} {c = c} {r = r} eq n e g = settles n e (subst (λ b. Settles d h w p b c y x r) eq g)

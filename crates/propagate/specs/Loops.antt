@@ -6,6 +6,8 @@ use mathlib.Core.Bool.{Bool, true, false}
 use mathlib.Core.List.{List, []}
 use mathlib.Core.Option.{Option, none}
 use lib.ListN.{length}
+use lib.Dec.{ltb}
+use borrow.Author.Tests.{ltb-true, ltb-false}
 use Rattle.model.specs.Lit.{no-reason}
 use Rattle.model.specs.State.{State}
 use Rattle.model.specs.Propagate as Definition
@@ -16,18 +18,18 @@ use Rattle.assign.specs.Reading.{trail-length}
 use Rattle.assign.specs.Searching.{qhead-formed}
 use Rattle.watch.specs.View.{list-of}
 use Rattle.watch.specs.Meaning.{as-count}
-use Rattle.watch.specs.Walk.{Stands}
 use Rattle.watch.specs.declared.Cursor.{Cursor}
 use Rattle.watching.specs.Propagate.{taken, turn, Turned, onward, halted, turn-formed}
 use Rattle.state.specs.declared.Header.{Header}
 use Rattle.state.specs.declared.Config.{Config}
 use Rattle.state.specs.View.{Whole, whole}
 use Rattle.state.specs.AssignmentLaws.{with-qhead, heads-rep, assigned-counted}
+use Rattle.state.specs.WatchLaws.{On, More}
 use Rattle.state.specs.Still.{config-of, state-at, Still}
 use Rattle.propagate.specs.declared.Step.{Step}
 use Rattle.propagate.specs.declared.Propagated.{Propagated}
 use Rattle.propagate.specs.Visit.{list-at, to-visit, visit-start, visit-end, propagate-end, propagate-on, propagate-clash}
-use Rattle.propagate.specs.View.{Walks, Went, Looked, conflict-if, conflict-of, Gives}
+use Rattle.propagate.specs.View.{Walks, left, Went, Looked, conflict-if, conflict-of, Gives}
 
 -- a result is given whole
 gives-is : (g : Config) (h : Header) (w w′ : List ℕ) (o : Definition.Propagated) (r : Propagated) → Gives g h w w′ o r → o ≡ record { state = state-at g (r .head) w′; conflict = conflict-of r }
@@ -47,44 +49,44 @@ is-given g h w w′ o r k e s =
 pub record Visiting (g : Config) (h₀ : Header) (w₀ : List ℕ) (p : ℕ) (h : Header) (w : List ℕ) (c : Cursor) : Type 0 where
   pub walks : Walks g h w p c
   pub size : length w ≡ length w₀
-  pub same : to-visit p (c .left) (state-at g h w) ≡ visit p [] (list-at p (state-at g h₀ w₀)) (state-at g h₀ w₀)
+  pub same : to-visit p (c .passed) (state-at g h w) ≡ visit p [] (list-at p (state-at g h₀ w₀)) (state-at g h₀ w₀)
   pub scratch : whole (g .sizes) h w .scratch ≡ whole (g .sizes) h₀ w₀ .scratch
 
 pub visiting-start : (g : Config) (h : Header) (w : List ℕ) (p : ℕ) (c : Cursor) → Still g h w → p ∈ (whole (g .sizes) h w .assignment .vars .trail)
-    → Stands c (list-of (whole (g .sizes) h w .watches) p) × (c .left ≡ length (list-of (whole (g .sizes) h w .watches) p)) → Visiting g h w p h w c
+    → On (g .sizes) p c (whole (g .sizes) h w) × (c .passed ≡ 0) → Visiting g h w p h w c
 visiting-start g h w p c k on a =
-    record {
-      walks = record { still = k; on = on; stands = a .0 };
-      size = refl;
-      same = visit-start p (c .left) (state-at g h w) (a .1 ∙ sym (as-count (whole (g .sizes) h w .watches) p));
-      scratch = refl;
-    }
+    record { walks = record { still = k; on = on; at = a .0 }; size = refl; same = visit-start p (c .passed) (state-at g h w) (a .1); scratch = refl }
 
 module _ (g : Config) (h₀ : Header) (w₀ : List ℕ) (p : ℕ) (h : Header) (w : List ℕ) (c : Cursor) (k : Visiting g h₀ w₀ p h w c) where
   abbrev result : Definition.Propagated
   result = visit p [] (list-at p (state-at g h₀ w₀)) (state-at g h₀ w₀)
 
-  module _ (w′ : List ℕ) (r : Step) (a : Looked g h w w′ p c r) where
-    went-as : (b : Bool) → r .clash ≡ b → Went g w′ p c (to-visit p (c .left) (state-at g h w)) (r .head) (r .cursor) b
-    went-as b e = subst (Went g w′ p c (to-visit p (c .left) (state-at g h w)) (r .head) (r .cursor)) e (a .went)
+  -- whether there is more, as it is tested
+  pub is-more : (b : Bool) → b ≡ ltb (c .passed) (length (list-of (whole (g .sizes) h w .watches) p)) → b ≡ true → More p c (whole (g .sizes) h w)
+  is-more b e t = ltb-true (c .passed) (length (list-of (whole (g .sizes) h w .watches) p)) (sym e ∙ t)
+
+  module _ (w′ : List ℕ) (r : Step) (y : ℕ) (a : Looked g h w w′ p c y r) where
+    went-as : (b : Bool) → r .clash ≡ b → Went g w′ p (left p c (whole (g .sizes) h w)) y (to-visit p (c .passed) (state-at g h w)) (r .head) (r .cursor) b
+    went-as b e = subst (Went g w′ p (left p c (whole (g .sizes) h w)) y (to-visit p (c .passed) (state-at g h w)) (r .head) (r .cursor)) e (a .went)
 
     pub visiting-step : r .clash ≡ false → length w′ ≡ length w → Visiting g h₀ w₀ p (r .head) w′ (r .cursor)
     visiting-step e n =
         let y = went-as false e in
         record { walks = y .0; size = n ∙ k .size; same = y .2 ∙ k .same; scratch = a .scratch ∙ k .scratch }
 
-    pub visiting-less : r .clash ≡ false → r .cursor .left < c .left
+    pub visiting-less : r .clash ≡ false → left p (r .cursor) (whole (g .sizes) (r .head) w′) < left p c (whole (g .sizes) h w)
     visiting-less e = let y = went-as false e in omega (arith, y .1)
 
-    pub visiting-clash : r .clash ≡ true → Gives g h₀ w₀ w′ result (record { head = r .head; conflict = true; clause = c .cur / 2 })
+    pub visiting-clash : r .clash ≡ true → Gives g h₀ w₀ w′ result (record { head = r .head; conflict = true; clause = y / 2 })
     visiting-clash e =
-        let y = went-as true e in
-        is-given g h₀ w₀ w′ result (record { head = r .head; conflict = true; clause = c .cur / 2 }) (y .0) (sym (k .same) ∙ y .1) (a .scratch ∙ k .scratch)
+        let z = went-as true e in
+        is-given g h₀ w₀ w′ result (record { head = r .head; conflict = true; clause = y / 2 }) (z .0) (sym (k .same) ∙ z .1) (a .scratch ∙ k .scratch)
 
-  pub visiting-end : c .left ≡ 0 → Gives g h₀ w₀ w result (record { head = h; conflict = false; clause = 0 })
-  visiting-end e =
+  pub visiting-end : (b : Bool) → b ≡ ltb (c .passed) (length (list-of (whole (g .sizes) h w .watches) p)) → b ≡ false → Gives g h₀ w₀ w result (record { head = h; conflict = false; clause = 0 })
+  visiting-end b e t =
+      let done : length (list-of (whole (g .sizes) h w .watches) p) ≤ c .passed = ltb-false (c .passed) (length (list-of (whole (g .sizes) h w .watches) p)) (sym e ∙ t) in
       is-given g h₀ w₀ w result (record { head = h; conflict = false; clause = 0 }) (k .walks .still)
-      (sym (k .same) ∙ ap (λ n. to-visit p n (state-at g h w)) e ∙ visit-end p (state-at g h w)) (k .scratch)
+      (sym (k .same) ∙ visit-end p (c .passed) (state-at g h w) (omega (arith, as-count (whole (g .sizes) h w .watches) p))) (k .scratch)
 
 -- ---- a turn
 

@@ -1,5 +1,5 @@
 -- What the functions of propagation do to the whole state.
-use Prim.Native.Nat.{ℕ, suc, _+_, _*_, _/_, _≤_, _<_}
+use Prim.Native.Nat.{ℕ, suc, _+_, _-_, _*_, _/_, _≤_, _<_}
 use mathlib.Core.Path.{_≡_}
 use mathlib.Core.Logic.{_≢_, _⊎_}
 use mathlib.Core.Bool.{Bool, true, false}
@@ -13,7 +13,6 @@ use Rattle.lawbase.specs.Basics.{_∈_}
 use Rattle.trail.specs.View.{LitsOf, enqueued}
 use Rattle.store.specs.View.{Clauses, clause-of, written}
 use Rattle.watch.specs.View.{list-of, blocked}
-use Rattle.watch.specs.Walk.{Stands}
 use Rattle.watch.specs.declared.Cursor.{Cursor}
 use Rattle.state.specs.declared.Sizes.{Sizes}
 use Rattle.state.specs.declared.Header.{Header}
@@ -21,7 +20,7 @@ use Rattle.state.specs.declared.Config.{Config}
 use Rattle.state.specs.View.{Whole, whole, Holds, with-assignment, with-watches, with-clauses}
 use Rattle.state.specs.Laws.{with-trail}
 use Rattle.state.specs.AssignmentLaws.{counts, with-qhead}
-use Rattle.state.specs.WatchLaws.{Gone}
+use Rattle.state.specs.WatchLaws.{On, Gone}
 use Rattle.state.specs.Still.{state-at, Still, Has}
 use Rattle.propagate.specs.Visit.{to-visit}
 use Rattle.propagate.specs.declared.Step.{Step}
@@ -43,21 +42,20 @@ abbrev pub place-of : ℕ → Option ℕ → ℕ
 place-of n none = n
 place-of n (some k) = k
 
--- the watch at the cursor c stays in the list of p with the blocker b, and the cursor r is at the next
-pub record Passed (d : Sizes) (h : Header) (w′ : List ℕ) (p b : ℕ) (x : Whole) (c r : Cursor) : Type 0 where
-  pub holds : Holds d h w′ (with-watches x (blocked (c .cur) b (x .watches)))
-  pub stands : Stands r (list-of (whole d h w′ .watches) p)
-  pub left : suc (r .left) ≡ c .left
+-- the watch at the cursor c, of node y, stays in the list of p with the blocker b, and the cursor r is at the next
+pub record Passed (d : Sizes) (h : Header) (w′ : List ℕ) (p b : ℕ) (x : Whole) (c : Cursor) (y : ℕ) (r : Cursor) : Type 0 where
+  pub holds : Holds d h w′ (with-watches x (blocked y b (x .watches)))
+  pub on : On d p r (whole d h w′)
+  pub passed : r .passed ≡ c .passed + 1
 
--- ---- the clause of the watch at a cursor
+-- ---- the clause of node y
 
-abbrev pub at-cursor : Whole → Cursor → List ℕ
-at-cursor x c = clause-of (x .clauses) (c .cur / 2)
+abbrev pub at-node : Whole → ℕ → List ℕ
+at-node x y = clause-of (x .clauses) (y / 2)
 
 -- the literal at k of that clause goes to place 1, and the false literal to its place
-abbrev pub exchanged : Whole → Cursor → ℕ → ℕ → Whole
-exchanged x c p k =
-    with-clauses x (put-clause (x .clauses) (c .cur / 2) (set (set (at-cursor x c) 1 (getD (at-cursor x c) k 0)) k (neg p)))
+abbrev pub exchanged : Whole → ℕ → ℕ → ℕ → Whole
+exchanged x y p k = with-clauses x (put-clause (x .clauses) (y / 2) (set (set (at-node x y) 1 (getD (at-node x y) k 0)) k (neg p)))
 
 -- it can be watched by the literal at k
 pub record Movable (n p : ℕ) (l : List ℕ) (k : ℕ) : Type 0 where
@@ -74,25 +72,25 @@ pub record Lookable (n p m : ℕ) (values l : List ℕ) : Type 0 where
   pub room : is-true values (getD l 0 0) ≡ false → is-false values (getD l 0 0) ≡ false → m < n
 
 -- its literals from the third on are false: then the first is false, or it is set
-pub data Settles (d : Sizes) (h : Header) (w′ : List ℕ) (p q : ℕ) (c : Cursor) (x : Whole) (r : Step) : Type 0 where
-  clashes : is-false (x .assignment .vars .values) q ≡ true → Passed d h w′ p q x c (r .cursor)
-      → r .head ≡ with-qhead h (length (x .assignment .vars .trail)) → r .clash ≡ true → Settles d h w′ p q c x r
+pub data Settles (d : Sizes) (h : Header) (w′ : List ℕ) (p q : ℕ) (c : Cursor) (y : ℕ) (x : Whole) (r : Step) : Type 0 where
+  clashes : is-false (x .assignment .vars .values) q ≡ true → Passed d h w′ p q x c y (r .cursor)
+      → r .head ≡ with-qhead h (length (x .assignment .vars .trail)) → r .clash ≡ true → Settles d h w′ p q c y x r
   sets : is-false (x .assignment .vars .values) q ≡ false
-      → Holds d (r .head) w′ (with-assignment (with-watches x (blocked (c .cur) q (x .watches))) (enqueued (x .assignment) q (c .cur / 2)))
-      → Stands (r .cursor) (list-of (whole d (r .head) w′ .watches) p) → suc (r .cursor .left) ≡ c .left
-      → r .head ≡ with-trail h (counts (h .trail .assigned + 1) (h .trail .levels)) → r .clash ≡ false → Settles d h w′ p q c x r
+      → Holds d (r .head) w′ (with-assignment (with-watches x (blocked y q (x .watches))) (enqueued (x .assignment) q (y / 2)))
+      → On d p (r .cursor) (whole d (r .head) w′) → r .cursor .passed ≡ c .passed + 1
+      → r .head ≡ with-trail h (counts (h .trail .assigned + 1) (h .trail .levels)) → r .clash ≡ false → Settles d h w′ p q c y x r
 
 -- what comes of the watch at the cursor, where its blocker is not true
-pub data Looks (d : Sizes) (h : Header) (w′ : List ℕ) (p : ℕ) (c : Cursor) (x : Whole) (r : Step) : Type 0 where
-  passes : is-true (x .assignment .vars .values) (getD (at-cursor x c) 0 0) ≡ true → Passed d h w′ p (getD (at-cursor x c) 0 0) x c (r .cursor)
-      → r .head ≡ h → r .clash ≡ false → Looks d h w′ p c x r
-  moves : (k : ℕ) → is-true (x .assignment .vars .values) (getD (at-cursor x c) 0 0) ≡ false
-      → new-watch (x .assignment .vars .values) 2 (drop 2 (at-cursor x c)) ≡ some k
-      → Gone d h w′ p (neg (getD (at-cursor x c) k 0)) (getD (at-cursor x c) 0 0) (exchanged x c p k) c (r .cursor)
-      → r .head ≡ h → r .clash ≡ false → Looks d h w′ p c x r
-  settles : is-true (x .assignment .vars .values) (getD (at-cursor x c) 0 0) ≡ false
-      → new-watch (x .assignment .vars .values) 2 (drop 2 (at-cursor x c)) ≡ none
-      → Settles d h w′ p (getD (at-cursor x c) 0 0) c x r → Looks d h w′ p c x r
+pub data Looks (d : Sizes) (h : Header) (w′ : List ℕ) (p : ℕ) (c : Cursor) (y : ℕ) (x : Whole) (r : Step) : Type 0 where
+  passes : is-true (x .assignment .vars .values) (getD (at-node x y) 0 0) ≡ true → Passed d h w′ p (getD (at-node x y) 0 0) x c y (r .cursor)
+      → r .head ≡ h → r .clash ≡ false → Looks d h w′ p c y x r
+  moves : (k : ℕ) → is-true (x .assignment .vars .values) (getD (at-node x y) 0 0) ≡ false
+      → new-watch (x .assignment .vars .values) 2 (drop 2 (at-node x y)) ≡ some k
+      → Gone d h w′ p (neg (getD (at-node x y) k 0)) (getD (at-node x y) 0 0) (exchanged x y p k) c
+      → r .head ≡ h → r .cursor ≡ c → r .clash ≡ false → Looks d h w′ p c y x r
+  settles : is-true (x .assignment .vars .values) (getD (at-node x y) 0 0) ≡ false
+      → new-watch (x .assignment .vars .values) 2 (drop 2 (at-node x y)) ≡ none
+      → Settles d h w′ p (getD (at-node x y) 0 0) c y x r → Looks d h w′ p c y x r
 
 -- ---- the walk over the watches of p
 
@@ -100,15 +98,19 @@ pub data Looks (d : Sizes) (h : Header) (w′ : List ℕ) (p : ℕ) (c : Cursor)
 pub record Walks (g : Config) (h : Header) (w : List ℕ) (p : ℕ) (c : Cursor) : Type 0 where
   pub still : Still g h w
   pub on : p ∈ (whole (g .sizes) h w .assignment .vars .trail)
-  pub stands : Stands c (list-of (whole (g .sizes) h w .watches) p)
+  pub at : On (g .sizes) p c (whole (g .sizes) h w)
 
--- after the watch at the cursor c: the walk goes on, or its clause is false; o is what the walk comes to
-abbrev pub Went : Config → List ℕ → ℕ → Cursor → Definition.Propagated → Header → Cursor → Bool → Type 0
-Went g w′ p c o h′ c′ false = Walks g h′ w′ p c′ × (suc (c′ .left) ≡ c .left) × (to-visit p (c′ .left) (state-at g h′ w′) ≡ o)
-Went g w′ p c o h′ c′ true = Still g h′ w′ × (o ≡ record { state = state-at g h′ w′; conflict = some (c .cur / 2) })
+-- how many watches are left
+abbrev pub left : ℕ → Cursor → Whole → ℕ
+left p c x = length (list-of (x .watches) p) - c .passed
 
-pub record Looked (g : Config) (h : Header) (w w′ : List ℕ) (p : ℕ) (c : Cursor) (r : Step) : Type 0 where
-  pub went : Went g w′ p c (to-visit p (c .left) (state-at g h w)) (r .head) (r .cursor) (r .clash)
+-- after the watch of node y, where m were left: the walk goes on, or the clause is false; o is what the walk comes to
+abbrev pub Went : Config → List ℕ → ℕ → ℕ → ℕ → Definition.Propagated → Header → Cursor → Bool → Type 0
+Went g w′ p m y o h′ c′ false = Walks g h′ w′ p c′ × (suc (left p c′ (whole (g .sizes) h′ w′)) ≡ m) × (to-visit p (c′ .passed) (state-at g h′ w′) ≡ o)
+Went g w′ p m y o h′ c′ true = Still g h′ w′ × (o ≡ record { state = state-at g h′ w′; conflict = some (y / 2) })
+
+pub record Looked (g : Config) (h : Header) (w w′ : List ℕ) (p : ℕ) (c : Cursor) (y : ℕ) (r : Step) : Type 0 where
+  pub went : Went g w′ p (left p c (whole (g .sizes) h w)) y (to-visit p (c .passed) (state-at g h w)) (r .head) (r .cursor) (r .clash)
   pub scratch : whole (g .sizes) (r .head) w′ .scratch ≡ whole (g .sizes) h w .scratch
 
 -- ---- the result

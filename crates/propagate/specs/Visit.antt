@@ -1,6 +1,6 @@
 -- `look`, `visit` and `propagate` a step at a time. A walk over the watches of p never reads the list of p itself, so that the list may stand in its
 -- place meanwhile: what has stayed, and what is still to come.
-use Prim.Native.Nat.{ℕ, zero, suc, _-_, _≤_, _<_}
+use Prim.Native.Nat.{ℕ, zero, suc, _≤_, _<_}
 use native.Mathlib.Omega.{arith}
 use mathlib.Core.Path.{_≡_, refl, sym, ap, ap₂, subst, _∙_}
 use mathlib.Core.Logic.{_≢_}
@@ -8,8 +8,8 @@ use mathlib.Core.Bool.{Bool, true, false, not, _&&_}
 use mathlib.Core.List.{List, [], _∷_, _++_}
 use mathlib.Core.Option.{Option, none, some}
 use lib.Dec.{eqb}
-use lib.ListN.{length, getD, set, drop}
-use lib.Seq.{take-length, drop-length, set-set, set-comm, getD-set-same, getD-set-other}
+use lib.ListN.{length, getD, set, take, drop, drop-of-length-le}
+use lib.Seq.{take-all, set-set, set-comm, getD-set-same, getD-set-other}
 use borrow.Author.Tests.{ne-eqb, lt-ltb, le-ltb}
 use Rattle.model.specs.Lit.{neg, no-reason, is-true, is-false}
 use Rattle.model.specs.Script.{Config}
@@ -19,7 +19,7 @@ use Rattle.model.specs.Trail.{unchecked-enqueue}
 use Rattle.model.specs.Propagate.{false-second, new-watch, Looked, stays, goes, false-clause, look, Propagated, visit, propagate}
 use Rattle.lawbase.specs.Basics.{split, same?}
 use Rattle.lawbase.specs.WellFormed.{WellFormed}
-use Rattle.watch.specs.Walk.{kept-of, rest-of, kept-goes, rest-goes, kept-stays, rest-stays, kept-all, rest-all}
+use Rattle.watch.specs.Walk.{kept-goes, rest-goes, kept-stays, rest-stays}
 use Rattle.watching.specs.Reorder.{listed}
 use Rattle.watching.specs.Look.{put, blocked-by}
 use Rattle.watching.specs.Propagate.{turn, listed-same, propagate-enough}
@@ -175,50 +175,49 @@ either-list p (w ∷ ws) kept a b s =
 pub visit-stale : (p : ℕ) (kept ws a : List Watch) (s : State) → visit p kept ws (listed p a s) ≡ visit p kept ws s
 visit-stale p kept ws a s = either-list p ws kept a (getD (s .store .watches) p []) s ∙ ap (visit p kept ws) (listed-same s p)
 
--- ---- a walk by how many watches are left
+-- ---- a walk by how many watches have stayed
 
 abbrev pub list-at : ℕ → State → List Watch
 list-at p s = getD (s .store .watches) p []
 
--- what is left to do where n watches of p are left
+-- what is left to do where i watches of p have stayed
 abbrev pub to-visit : ℕ → ℕ → State → Propagated
-to-visit p n s = visit p (kept-of n (list-at p s)) (rest-of n (list-at p s)) s
+to-visit p i s = visit p (take i (list-at p s)) (drop i (list-at p s)) s
 
-pub visit-start : (p n : ℕ) (s : State) → n ≡ length (list-at p s) → to-visit p n s ≡ visit p [] (list-at p s) s
-visit-start p n s e = rw (e, kept-all (list-at p s), rest-all (list-at p s))
+pub visit-start : (p i : ℕ) (s : State) → i ≡ 0 → to-visit p i s ≡ visit p [] (list-at p s) s
+visit-start p i s e = rw e
 
-pub visit-end : (p : ℕ) (s : State) → to-visit p 0 s ≡ record { state = s; conflict = none }
+pub visit-end : (p i : ℕ) (s : State) → length (list-at p s) ≤ i → to-visit p i s ≡ record { state = s; conflict = none }
 unfolding visit
-visit-end p s =
-    let z : length (list-at p s) - 0 ≡ length (list-at p s) = omega arith in
-    rw (z, drop-length (list-at p s), take-length (list-at p s)) (ap (λ (x : State). record { state = x; conflict = none }) (listed-same s p))
+visit-end p i s h =
+    rw (drop-of-length-le (list-at p s) h, take-all i (list-at p s) h) (ap (λ (x : State). record { state = x; conflict = none }) (listed-same s p))
 
-module _ (p n : ℕ) (s : State) (h : n < length (list-at p s)) (w : Watch) (here : rest-of (suc n) (list-at p s) ≡ w ∷ rest-of n (list-at p s)) where
-  to-after : to-visit p (suc n) s ≡ after p (kept-of (suc n) (list-at p s)) w (rest-of n (list-at p s)) (look p w s)
-  to-after = ap (λ (ws : List Watch). visit p (kept-of (suc n) (list-at p s)) ws s) here ∙ visit-is p (kept-of (suc n) (list-at p s)) w (rest-of n (list-at p s)) s
+module _ (p i : ℕ) (s : State) (h : i < length (list-at p s)) (w : Watch) (here : drop i (list-at p s) ≡ w ∷ drop (suc i) (list-at p s)) where
+  to-after : to-visit p i s ≡ after p (take i (list-at p s)) w (drop (suc i) (list-at p s)) (look p w s)
+  to-after = ap (λ (ws : List Watch). visit p (take i (list-at p s)) ws s) here ∙ visit-is p (take i (list-at p s)) w (drop (suc i) (list-at p s)) s
 
   module _ (t s′ : State) (inside : p < length (t .store .watches)) where
-    -- the walk goes on in a state whose list of p is kept ++ rest
-    on-from : (kept l : List Watch) → s′ ≡ listed p l t → kept-of n l ≡ kept → rest-of n l ≡ rest-of n (list-at p s) → to-visit p n s′ ≡ visit p kept (rest-of n (list-at p s)) t
-    on-from kept l f ek er =
-        ap (to-visit p n) f
-        ∙ ap (λ (xs : List Watch). visit p (kept-of n xs) (rest-of n xs) (listed p l t)) (getD-set-same (t .store .watches) p l [] inside)
-        ∙ visit-stale p (kept-of n l) (rest-of n l) l t
+    -- the walk goes on in a state whose list of p is kept and the rest
+    on-from : (j : ℕ) (kept l : List Watch) → s′ ≡ listed p l t → take j l ≡ kept → drop j l ≡ drop (suc i) (list-at p s) → to-visit p j s′ ≡ visit p kept (drop (suc i) (list-at p s)) t
+    on-from j kept l f ek er =
+        ap (to-visit p j) f
+        ∙ ap (λ (xs : List Watch). visit p (take j xs) (drop j xs) (listed p l t)) (getD-set-same (t .store .watches) p l [] inside)
+        ∙ visit-stale p (take j l) (drop j l) l t
         ∙ ap₂ (λ (k r : List Watch). visit p k r t) ek er
 
-    pub visit-stays : (w′ : Watch) → look p w s ≡ stays w′ t → s′ ≡ listed p (kept-of (suc n) (list-at p s) ++ (w′ ∷ rest-of n (list-at p s))) t → to-visit p n s′ ≡ to-visit p (suc n) s
+    pub visit-stays : (w′ : Watch) → look p w s ≡ stays w′ t → s′ ≡ listed p (take i (list-at p s) ++ (w′ ∷ drop (suc i) (list-at p s))) t → to-visit p (suc i) s′ ≡ to-visit p i s
     visit-stays w′ e f =
-        on-from (kept-of (suc n) (list-at p s) ++ (w′ ∷ [])) (kept-of (suc n) (list-at p s) ++ (w′ ∷ rest-of n (list-at p s))) f (kept-stays n (list-at p s) h w′) (rest-stays n (list-at p s) h w′)
-        ∙ sym (to-after ∙ ap (after p (kept-of (suc n) (list-at p s)) w (rest-of n (list-at p s))) e)
+        on-from (suc i) (take i (list-at p s) ++ (w′ ∷ [])) (take i (list-at p s) ++ (w′ ∷ drop (suc i) (list-at p s))) f (kept-stays i (list-at p s) h w′) (rest-stays i (list-at p s) h w′)
+        ∙ sym (to-after ∙ ap (after p (take i (list-at p s)) w (drop (suc i) (list-at p s))) e)
 
-    pub visit-goes : look p w s ≡ goes t → s′ ≡ listed p (kept-of (suc n) (list-at p s) ++ rest-of n (list-at p s)) t → to-visit p n s′ ≡ to-visit p (suc n) s
+    pub visit-goes : look p w s ≡ goes t → s′ ≡ listed p (take i (list-at p s) ++ drop (suc i) (list-at p s)) t → to-visit p i s′ ≡ to-visit p i s
     visit-goes e f =
-        on-from (kept-of (suc n) (list-at p s)) (kept-of (suc n) (list-at p s) ++ rest-of n (list-at p s)) f (kept-goes n (list-at p s) h) (rest-goes n (list-at p s) h)
-        ∙ sym (to-after ∙ ap (after p (kept-of (suc n) (list-at p s)) w (rest-of n (list-at p s))) e)
+        on-from i (take i (list-at p s)) (take i (list-at p s) ++ drop (suc i) (list-at p s)) f (kept-goes i (list-at p s) h) (rest-goes i (list-at p s) h)
+        ∙ sym (to-after ∙ ap (after p (take i (list-at p s)) w (drop (suc i) (list-at p s))) e)
 
   pub visit-clash : (t : State) (w′ : Watch) → look p w s ≡ false-clause w′ t
-      → to-visit p (suc n) s ≡ record { state = with-qhead (listed p (kept-of (suc n) (list-at p s) ++ (w′ ∷ rest-of n (list-at p s))) t) (length (t .vars .trail)); conflict = some (w .clause) }
-  visit-clash t w′ e = to-after ∙ ap (after p (kept-of (suc n) (list-at p s)) w (rest-of n (list-at p s))) e
+      → to-visit p i s ≡ record { state = with-qhead (listed p (take i (list-at p s) ++ (w′ ∷ drop (suc i) (list-at p s))) t) (length (t .vars .trail)); conflict = some (w .clause) }
+  visit-clash t w′ e = to-after ∙ ap (after p (take i (list-at p s)) w (drop (suc i) (list-at p s))) e
 
 -- ---- `propagate`, a turn at a time
 

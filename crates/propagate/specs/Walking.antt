@@ -1,5 +1,5 @@
 -- One watch of a walk: what the slice holds after it is what the definition has.
-use Prim.Native.Nat.{ℕ, zero, suc, _-_, _*_, _/_, _≤_, _<_}
+use Prim.Native.Nat.{ℕ, zero, suc, _+_, _-_, _*_, _≤_, _<_}
 use native.Mathlib.Omega.{arith}
 use native.Mathlib.Nat.{not-suc-le-zero}
 use mathlib.Core.Path.{_≡_, refl, sym, ap, subst, _∙_}
@@ -7,21 +7,18 @@ use mathlib.Core.Logic.{_≢_, inl, inr}
 use mathlib.Core.Bool.{true, false}
 use mathlib.Core.List.{List, [], _∷_, _++_, append-assoc, List·Memᴰ·head as here}
 use mathlib.Core.Option.{some}
-use lib.ListN.{length, getD, set, length-set}
-use Rattle.region.specs.Split.{split}
+use lib.ListN.{length, getD, set, take, drop, length-set, length-append, length-drop, take-append-drop}
+use lib.Seq.{getD-set-same, length-take-le}
 use Rattle.model.specs.Lit.{var, neg, no-reason}
 use Rattle.model.specs.State.{Watch, State}
-use Rattle.model.specs.Store.{push-watch}
 use Rattle.model.specs.Propagate.{false-second, stays, goes, false-clause, look}
 use Rattle.lawbase.specs.Basics as basics
 use Rattle.lawbase.specs.Basics.{_∈_}
 use Rattle.lawbase.specs.WellFormed.{WellFormed}
 use Rattle.assign.specs.Lists.{getD-in}
 use Rattle.assign.specs.Reading.{trail-range, trail-room}
-use Rattle.watch.specs.View.{list-of, blocked, moved}
+use Rattle.watch.specs.View.{list-of}
 use Rattle.watch.specs.Meaning.{as-watch, as-watches, as-count, under-clauses}
-use Rattle.watch.specs.Walk.{kept-of, rest-of, parts-of, Stands}
-use Rattle.watch.specs.Steps as wt
 use Rattle.watch.specs.declared.Cursor.{Cursor}
 use Rattle.watching.specs.Reorder.{listed, Looking, looking}
 use Rattle.watching.specs.Visit.{Walking, Falsified, Next, visit-formed, first-of, looked-clause, new-other, unit-unset}
@@ -30,12 +27,13 @@ use Rattle.watching.specs.Propagate.{listed-same}
 use Rattle.state.specs.declared.Sizes.{Sizes}
 use Rattle.state.specs.declared.Header.{Header}
 use Rattle.state.specs.declared.Config.{Config}
-use Rattle.state.specs.View.{Whole, whole, shape, lists-size, Rep, Holds}
+use Rattle.state.specs.View.{whole, Rep}
 use Rattle.state.specs.AssignmentLaws.{assigned-counted}
-use Rattle.state.specs.WatchSteps.{lists-hold, watch-left}
+use Rattle.state.specs.WatchLaws.{On, More, node-at}
+use Rattle.state.specs.WatchSteps.{watch-left}
 use Rattle.state.specs.Still.{config-of, state-at, Still}
 use Rattle.propagate.specs.Visit.{list-at, to-visit, visit-stays, visit-goes, visit-clash}
-use Rattle.propagate.specs.View.{Walks, Went, Paired, Lookable, at-cursor}
+use Rattle.propagate.specs.View.{Walks, left, Went, Paired, Lookable, at-node}
 
 -- ---- a slice that holds another state, with nothing else changed
 
@@ -63,40 +61,17 @@ still-aside g h h′ w w′ k a f =
       formed = f;
     }
 
--- ---- the lists after a watch
-
-module _ (d : Sizes) (h : Header) (w : List ℕ) (r : Rep d h w) (l : ℕ) (hl : l < 2 * d .vars) (c : Cursor) (a : Stands c (list-of (whole d h w .watches) l)) (n : ℕ) (e : c .left ≡ suc n) where
-  abbrev lists : List (List Watch)
-  lists = as-watches (whole d h w .watches)
-
-  pub lists-blocked : (b : ℕ) {h′ : Header} {w′ : List ℕ} {x : Whole} → Holds d h′ w′ x → x .watches ≡ blocked (c .cur) b (whole d h w .watches)
-      → as-watches (whole d h′ w′ .watches) ≡ set lists l (kept-of (suc n) (getD lists l []) ++ (record { clause = c .cur / 2; blocker = b } ∷ rest-of n (getD lists l [])))
-  unfolding whole
-  lists-blocked b {w′ = w′} k ex =
-      wt.watch-blocked (lists-size d) (getD (split (shape d) w) 2 []) (r .blocks .watch) l hl c a n e b (getD (split (shape d) w′) 2 [])
-      (record { rep = lists-hold k .rep; view = lists-hold k .view ∙ ex })
-      ∙ ap (λ m. set lists l (kept-of m (getD lists l []) ++ (record { clause = c .cur / 2; blocker = b } ∷ rest-of n (getD lists l [])))) e
-
-  pub lists-moved : (m b : ℕ) {h′ : Header} {w′ : List ℕ} {x : Whole} (q : Cursor) → m < 2 * d .vars → l ≢ m → Holds d h′ w′ x
-      → x .watches ≡ moved l (length (list-of (whole d h w .watches) l) - c .left) m b (whole d h w .watches) → Stands q (list-of (whole d h′ w′ .watches) l) → suc (q .left) ≡ c .left
-      → as-watches (whole d h′ w′ .watches) ≡ push-watch (set lists l (kept-of (suc n) (getD lists l []) ++ rest-of n (getD lists l []))) m (record { clause = c .cur / 2; blocker = b })
-  unfolding whole
-  lists-moved m b {w′ = w′} q hm ne k ex st left =
-      wt.watch-gone (lists-size d) (getD (split (shape d) w) 2 []) (r .blocks .watch) l hl c a n e m b (getD (split (shape d) w′) 2 []) q hm ne
-      (record { holds = record { rep = lists-hold k .rep; view = lists-hold k .view ∙ ex }; stands = st; left = left })
-      ∙ ap (λ j. push-watch (set lists l (kept-of j (getD lists l []) ++ rest-of n (getD lists l []))) m (record { clause = c .cur / 2; blocker = b })) e
-
 -- ---- a walk at a watch
 
-module _ (g : Config) (h : Header) (w : List ℕ) (p : ℕ) (c : Cursor) (k : Walks g h w p c) (n : ℕ) (e : c .left ≡ suc n) where
+module _ (g : Config) (h : Header) (w : List ℕ) (p : ℕ) (c : Cursor) (k : Walks g h w p c) (more : More p c (whole (g .sizes) h w)) where
   abbrev pub the-watch : Watch
-  the-watch = as-watch (whole (g .sizes) h w .watches .blockers) (c .cur)
+  the-watch = as-watch (whole (g .sizes) h w .watches .blockers) (node-at p c (whole (g .sizes) h w))
 
   abbrev pub kept-now : List Watch
-  kept-now = kept-of (suc n) (list-at p (state-at g h w))
+  kept-now = take (c .passed) (list-at p (state-at g h w))
 
   abbrev pub rest-now : List Watch
-  rest-now = rest-of n (list-at p (state-at g h w))
+  rest-now = drop (suc (c .passed)) (list-at p (state-at g h w))
 
   pub in-range : p < 2 * g .sizes .vars
   in-range = trail-range (k .still .formed .vars) p (k .on)
@@ -104,14 +79,14 @@ module _ (g : Config) (h : Header) (w : List ℕ) (p : ℕ) (c : Cursor) (k : Wa
   pub small : config-of g .max-clauses ≤ no-reason
   small = omega (arith, k .still .rep .room .room)
 
-  pub its-watch : rest-of (suc n) (list-at p (state-at g h w)) ≡ the-watch ∷ rest-now
-  its-watch = ap (λ m. rest-of m (list-at p (state-at g h w))) (sym e) ∙ watch-left (g .sizes) h w (k .still .rep) p in-range c (k .stands) n e
+  pub its-watch : drop (c .passed) (list-at p (state-at g h w)) ≡ the-watch ∷ rest-now
+  its-watch = watch-left (g .sizes) h w (k .still .rep) p in-range c more
 
-  pub more-left : n < length (list-at p (state-at g h w))
-  more-left = omega (arith, as-count (whole (g .sizes) h w .watches) p, k .stands .inside)
+  pub more-left : c .passed < length (list-at p (state-at g h w))
+  more-left = omega (arith, as-count (whole (g .sizes) h w .watches) p)
 
   whole-list : kept-now ++ (the-watch ∷ rest-now) ≡ list-at p (state-at g h w)
-  whole-list = ap (λ l. kept-now ++ l) (sym its-watch) ∙ parts-of (suc n) (list-at p (state-at g h w))
+  whole-list = ap (λ l. kept-now ++ l) (sym its-watch) ∙ take-append-drop (c .passed) (list-at p (state-at g h w))
 
   -- the list of p is what has stayed, the watch, and the rest
   pub listed-now : listed p (kept-now ++ (the-watch ∷ rest-now)) (state-at g h w) ≡ state-at g h w
@@ -126,73 +101,96 @@ module _ (g : Config) (h : Header) (w : List ℕ) (p : ℕ) (c : Cursor) (k : Wa
   next-is : Next p (Walking (config-of g) p (h .qhead)) (Falsified (config-of g)) kept-now the-watch rest-now (look p the-watch (state-at g h w))
   next-is = visit-formed (config-of g) small p (h .qhead) kept-now the-watch rest-now (state-at g h w) walking
 
+  -- how long the list is with what has stayed and the rest
+  kept-size : length kept-now ≡ c .passed
+  kept-size = length-take-le (c .passed) (list-at p (state-at g h w)) (omega (arith, more-left))
+
+  rest-size : length rest-now ≡ length (list-of (whole (g .sizes) h w .watches) p) - suc (c .passed)
+  rest-size = length-drop (suc (c .passed)) (list-at p (state-at g h w)) ∙ ap (λ n. n - suc (c .passed)) (as-count (whole (g .sizes) h w .watches) p)
+
+  stay-size : (v : Watch) → length (kept-now ++ (v ∷ rest-now)) ≡ length (list-of (whole (g .sizes) h w .watches) p)
+  stay-size v = length-append kept-now (v ∷ rest-now) ∙ omega (arith, kept-size, rest-size, more)
+
+  go-size : suc (length (kept-now ++ rest-now)) ≡ length (list-of (whole (g .sizes) h w .watches) p)
+  go-size = omega (arith, length-append kept-now rest-now, kept-size, rest-size, more)
+
   -- ---- after it
 
   module _ (h′ : Header) (w′ : List ℕ) (a : Aside (g .sizes) h h′ w w′) where
-    module _ (c′ : Cursor) (st : Stands c′ (list-of (whole (g .sizes) h′ w′ .watches) p)) (left : c′ .left ≡ n) (t : State) (kept : List Watch) where
-      went-on : Walking (config-of g) p (h .qhead) kept rest-now t → state-at g h′ w′ ≡ listed p (kept ++ rest-now) t → to-visit p n (state-at g h′ w′) ≡ to-visit p (suc n) (state-at g h w)
-          → Went g w′ p c (to-visit p (c .left) (state-at g h w)) h′ c′ false
-      went-on v f same = (
-        record {
-          still = still-aside g h h′ w w′ (k .still) a (subst (WellFormed (config-of g)) (sym f) (v .formed));
-          on = subst (λ (z : State). p ∈ (z .vars .trail)) (sym f) (v .on);
-          stands = st;
-        },
-        omega arith,
-        ap (λ m. to-visit p m (state-at g h′ w′)) left ∙ same ∙ ap (λ m. to-visit p m (state-at g h w)) (sym e),
-      )
+    module _ (c′ : Cursor) (st : On (g .sizes) p c′ (whole (g .sizes) h′ w′)) (t : State) (kept : List Watch) (l : List Watch) where
+      went-on : Walking (config-of g) p (h .qhead) kept rest-now t → kept ++ rest-now ≡ l → state-at g h′ w′ ≡ listed p l t → p < length (t .store .watches)
+          → suc (length l - c′ .passed) ≡ left p c (whole (g .sizes) h w) → to-visit p (c′ .passed) (state-at g h′ w′) ≡ to-visit p (c .passed) (state-at g h w)
+          → Went g w′ p (left p c (whole (g .sizes) h w)) (node-at p c (whole (g .sizes) h w)) (to-visit p (c .passed) (state-at g h w)) h′ c′ false
+      went-on v el f inside size same =
+          let e : state-at g h′ w′ ≡ listed p (kept ++ rest-now) t = f ∙ ap (λ (m : List Watch). listed p m t) (sym el) in
+          let n : length (list-of (whole (g .sizes) h′ w′ .watches) p) ≡ length l =
+          sym (as-count (whole (g .sizes) h′ w′ .watches) p) ∙ ap (λ (s : State). length (list-at p s)) f ∙ ap length (getD-set-same (t .store .watches) p l [] inside)
+          in (
+            record {
+              still = still-aside g h h′ w w′ (k .still) a (subst (WellFormed (config-of g)) (sym e) (v .formed));
+              on = subst (λ (z : State). p ∈ (z .vars .trail)) (sym e) (v .on);
+              at = st;
+            },
+            ap (λ m. suc (m - c′ .passed)) n ∙ size,
+            same,
+          )
 
     module _ (t : State) where
       inside : (l : List Watch) → WellFormed (config-of g) (listed p l t) → p < length (t .store .watches)
       inside l v = omega (arith, in-range, v .store .watched .lists, length-set (t .store .watches) p l)
 
-      pub after-stays : (c′ : Cursor) → Stands c′ (list-of (whole (g .sizes) h′ w′ .watches) p) → c′ .left ≡ n → (v : Watch) → look p the-watch (state-at g h w) ≡ stays v t
-          → state-at g h′ w′ ≡ listed p (kept-now ++ (v ∷ rest-now)) t → Went g w′ p c (to-visit p (c .left) (state-at g h w)) h′ c′ false
-      after-stays c′ st left v el f =
+      pub after-stays : (c′ : Cursor) → On (g .sizes) p c′ (whole (g .sizes) h′ w′) → c′ .passed ≡ c .passed + 1 → (v : Watch) → look p the-watch (state-at g h w) ≡ stays v t
+          → state-at g h′ w′ ≡ listed p (kept-now ++ (v ∷ rest-now)) t
+          → Went g w′ p (left p c (whole (g .sizes) h w)) (node-at p c (whole (g .sizes) h w)) (to-visit p (c .passed) (state-at g h w)) h′ c′ false
+      after-stays c′ st ec v el f =
           let y : Walking (config-of g) p (h .qhead) (kept-now ++ (v ∷ [])) rest-now t = subst (Next p (Walking (config-of g) p (h .qhead)) (Falsified (config-of g)) kept-now the-watch rest-now) el next-is in
-          went-on c′ st left t (kept-now ++ (v ∷ [])) y (f ∙ ap (λ l. listed p l t) (sym (append-assoc kept-now (v ∷ []) rest-now)))
-          (visit-stays p n (state-at g h w) more-left the-watch its-watch t (state-at g h′ w′) (inside _ (y .formed)) v el f)
+          let e : c′ .passed ≡ suc (c .passed) = omega arith in
+          went-on c′ st t (kept-now ++ (v ∷ [])) (kept-now ++ (v ∷ rest-now)) y (append-assoc kept-now (v ∷ []) rest-now) f (inside _ (y .formed))
+          (omega (arith, stay-size v, more))
+          (ap (λ i. to-visit p i (state-at g h′ w′)) e ∙ visit-stays p (c .passed) (state-at g h w) more-left the-watch its-watch t (state-at g h′ w′) (inside _ (y .formed)) v el f)
 
-      pub after-goes : (c′ : Cursor) → Stands c′ (list-of (whole (g .sizes) h′ w′ .watches) p) → c′ .left ≡ n → look p the-watch (state-at g h w) ≡ goes t
-          → state-at g h′ w′ ≡ listed p (kept-now ++ rest-now) t → Went g w′ p c (to-visit p (c .left) (state-at g h w)) h′ c′ false
-      after-goes c′ st left el f =
+      pub after-goes : On (g .sizes) p c (whole (g .sizes) h′ w′) → look p the-watch (state-at g h w) ≡ goes t → state-at g h′ w′ ≡ listed p (kept-now ++ rest-now) t
+          → Went g w′ p (left p c (whole (g .sizes) h w)) (node-at p c (whole (g .sizes) h w)) (to-visit p (c .passed) (state-at g h w)) h′ c false
+      after-goes st el f =
           let y : Walking (config-of g) p (h .qhead) kept-now rest-now t = subst (Next p (Walking (config-of g) p (h .qhead)) (Falsified (config-of g)) kept-now the-watch rest-now) el next-is in
-          went-on c′ st left t kept-now y f (visit-goes p n (state-at g h w) more-left the-watch its-watch t (state-at g h′ w′) (inside _ (y .formed)) el f)
+          went-on c st t kept-now (kept-now ++ rest-now) y refl f (inside _ (y .formed))
+          (omega (arith, go-size, more))
+          (visit-goes p (c .passed) (state-at g h w) more-left the-watch its-watch t (state-at g h′ w′) (inside _ (y .formed)) el f)
 
       pub after-clash : (c′ : Cursor) (v : Watch) → look p the-watch (state-at g h w) ≡ false-clause v t → state-at g h′ w′ ≡ wl.stopped p (kept-now ++ (v ∷ rest-now)) t
-          → Went g w′ p c (to-visit p (c .left) (state-at g h w)) h′ c′ true
+          → Went g w′ p (left p c (whole (g .sizes) h w)) (node-at p c (whole (g .sizes) h w)) (to-visit p (c .passed) (state-at g h w)) h′ c′ true
       after-clash c′ v el f =
           let y : Falsified (config-of g) (the-watch .clause) (wl.stopped p (kept-now ++ (v ∷ rest-now)) t) = subst (Next p (Walking (config-of g) p (h .qhead)) (Falsified (config-of g)) kept-now the-watch rest-now) el next-is in (
             still-aside g h h′ w w′ (k .still) a (subst (WellFormed (config-of g)) (sym f) (y .formed)),
-            ap (λ m. to-visit p m (state-at g h w)) e ∙ visit-clash p n (state-at g h w) more-left the-watch its-watch t v el
-                ∙ ap (λ (z : State). record { state = z; conflict = some (c .cur / 2) }) (sym f),
+            visit-clash p (c .passed) (state-at g h w) more-left the-watch its-watch t v el
+                ∙ ap (λ (z : State). record { state = z; conflict = some (the-watch .clause) }) (sym f),
           )
 
 -- ---- what the code's functions ask
 
-module _ (g : Config) (h : Header) (w : List ℕ) (p : ℕ) (c : Cursor) (k : Walks g h w p c) (n : ℕ) (e : c .left ≡ suc n) where
-  pub blocker-var : var (the-watch g h w p c k n e .blocker) < g .sizes .vars
+module _ (g : Config) (h : Header) (w : List ℕ) (p : ℕ) (c : Cursor) (k : Walks g h w p c) (more : More p c (whole (g .sizes) h w)) where
+  pub blocker-var : var (the-watch g h w p c k more .blocker) < g .sizes .vars
   blocker-var =
-      let l = the-look g h w p c k n e in
-      omega (arith, l .proper .range (the-watch g h w p c k n e .blocker) (l .blocker))
+      let l = the-look g h w p c k more in
+      omega (arith, l .proper .range (the-watch g h w p c k more .blocker) (l .blocker))
 
   -- the false literal is one of the clause's first two
-  pub paired : (f : ℕ) → f ≡ neg p → Paired (g .sizes .vars) f (at-cursor (whole (g .sizes) h w) c)
+  pub paired : (f : ℕ) → f ≡ neg p → Paired (g .sizes .vars) f (at-node (whole (g .sizes) h w) (node-at p c (whole (g .sizes) h w)))
   paired f ef =
-      let l = the-look g h w p c k n e in
+      let l = the-look g h w p c k more in
       record {
         two = l .proper .two;
-        lits = λ i hi. omega (arith, l .proper .range (getD (at-cursor (whole (g .sizes) h w) c) i 0) (getD-in (at-cursor (whole (g .sizes) h w) c) i 0 hi));
+        lits = λ i hi. omega (arith, l .proper .range (getD (at-node (whole (g .sizes) h w) (node-at p c (whole (g .sizes) h w))) i 0) (getD-in (at-node (whole (g .sizes) h w) (node-at p c (whole (g .sizes) h w))) i 0 hi));
         one = rw ef (basics.split (l .shape .moved) (λ m. inr (ap (λ (c : List ℕ). getD c 1 0) m)) (λ m. inl (ap (λ (c : List ℕ). getD c 0 0) m)));
       }
 
-  pub seconded-is : false-second (neg p) (at-cursor (whole (g .sizes) h w) c) ≡ looked-clause (the-look g h w p c k n e)
-  seconded-is = the-look g h w p c k n e .shape .shape
+  pub seconded-is : false-second (neg p) (at-node (whole (g .sizes) h w) (node-at p c (whole (g .sizes) h w))) ≡ looked-clause (the-look g h w p c k more)
+  seconded-is = the-look g h w p c k more .shape .shape
 
-  looked-lookable : Lookable (g .sizes .vars) p (h .trail .assigned) (whole (g .sizes) h w .assignment .vars .values) (looked-clause (the-look g h w p c k n e))
+  looked-lookable : Lookable (g .sizes .vars) p (h .trail .assigned) (whole (g .sizes) h w .assignment .vars .values) (looked-clause (the-look g h w p c k more))
   looked-lookable =
-      let l = the-look g h w p c k n e in
-      let v = walking g h w p c k n e in
+      let l = the-look g h w p c k more in
+      let v = walking g h w p c k more in
       record {
         two = omega arith;
         lits = λ i hi. omega (arith, wl.whole l .range (getD (looked-clause l) i 0) (getD-in (looked-clause l) i 0 hi));
@@ -204,11 +202,11 @@ module _ (g : Config) (h : Header) (w : List ℕ) (p : ℕ) (c : Cursor) (k : Wa
         );
       }
     where
-      other : (l : Looking (config-of g) p (the-watch g h w p c k n e) (state-at g h w)) (i : ℕ) → 2 ≤ i → i < length (looked-clause l) → p ≢ neg (getD (looked-clause l) i 0)
+      other : (l : Looking (config-of g) p (the-watch g h w p c k more) (state-at g h w)) (i : ℕ) → 2 ≤ i → i < length (looked-clause l) → p ≢ neg (getD (looked-clause l) i 0)
       other l zero t hi q = absurd (not-suc-le-zero t)
       other l (suc zero) t hi q = omega arith
       other l (suc (suc j)) t hi q = new-other l j (omega arith) (sym q)
 
   -- the clause with its false literal second can be looked at
-  pub lookable : Lookable (g .sizes .vars) p (h .trail .assigned) (whole (g .sizes) h w .assignment .vars .values) (false-second (neg p) (at-cursor (whole (g .sizes) h w) c))
+  pub lookable : Lookable (g .sizes .vars) p (h .trail .assigned) (whole (g .sizes) h w .assignment .vars .values) (false-second (neg p) (at-node (whole (g .sizes) h w) (node-at p c (whole (g .sizes) h w))))
   lookable = subst (Lookable (g .sizes .vars) p (h .trail .assigned) (whole (g .sizes) h w .assignment .vars .values)) (sym seconded-is) looked-lookable

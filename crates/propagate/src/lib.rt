@@ -9,14 +9,12 @@ ghost use Rattle.model.specs.Propagate.{false-second, new-watch, visit, propaga
 ghost use Rattle.lawbase.specs.Basics.{_∈_};
 ghost use Rattle.trail.specs.View.{LitsOf};
 ghost use Rattle.store.specs.View.{clause-of};
-ghost use Rattle.watch.specs.View.{list-of};
-ghost use Rattle.watch.specs.Walk.{Stands};
 ghost use Rattle.state.specs.View.{Rep, Holds, whole, with-clauses};
-ghost use Rattle.state.specs.WatchLaws.{Gone};
+ghost use Rattle.state.specs.WatchLaws.{On, More, node-at, Gone};
 ghost use Rattle.state.specs.Still.{Still, state-at};
 ghost use Rattle.watching.specs.Propagate.{turn};
 ghost use Rattle.propagate.specs.Visit.{list-at};
-ghost use Rattle.propagate.specs.View.{put-clause, place-of, Paired, Passed, at-cursor, exchanged, Movable, Lookable, Settles, Looks, Walks, Looked, Gives};
+ghost use Rattle.propagate.specs.View.{put-clause, place-of, Paired, Passed, at-node, exchanged, Movable, Lookable, Settles, Looks, Walks, Looked, Gives};
 use clause::Lit;
 use state::Config;
 use state::Header;
@@ -96,45 +94,47 @@ fn new_watch(d: Sizes, h: Header, work: &[u32], c: usize) -> usize
     n
 }
 
-// The watch at the cursor stays, with the blocker b.
-fn pass(d: Sizes, h: Header, work: &mut [u32], p: Lit, c: Cursor, b: Lit) -> Cursor
+// The watch at the cursor, of node x, stays with the blocker b.
+fn pass(d: Sizes, h: Header, work: &mut [u32], p: Lit, c: Cursor, x: usize, b: Lit) -> Cursor
     requires { ⌜ Rep d h (now work) ⌝ }
     requires { ⌜ p .0 < 2 * d .vars ⌝ }
-    requires { ⌜ Stands c (list-of (whole d h (now work) .watches) (p .0)) × (0 < c .left) ⌝ }
-    ensures { λ r. ⌜ Passed d h (now (work .exit)) (p .0) (b .0) (whole d h (now (work .entry))) c r ⌝ }
+    requires { ⌜ On d (p .0) c (whole d h (now work)) × More (p .0) c (whole d h (now work)) ⌝ }
+    requires { ⌜ x ≡ node-at (p .0) c (whole d h (now work)) ⌝ }
+    ensures { λ r. ⌜ Passed d h (now (work .exit)) (p .0) (b .0) (whole d h (now (work .entry))) c x r ⌝ }
 {
-    let x = c.cur;
     watches::set_blocker(d, h, work, x, b);
-    watches::stay(d, h, work, p, c)
+    watches::stay(d, h, work, p, c, x)
 }
 
-// The watch at the cursor goes to the literal at k of its clause, which becomes the second; the false literal takes its place.
-fn go(d: Sizes, h: Header, work: &mut [u32], p: Lit, c: Cursor, k: usize, b: Lit) -> Cursor
+// The watch at the cursor, of node x, goes to the literal at k of its clause, which becomes the second; the false literal takes its place.
+fn go(d: Sizes, h: Header, work: &mut [u32], p: Lit, c: Cursor, x: usize, k: usize, b: Lit)
     requires { ⌜ Rep d h (now work) ⌝ }
     requires { ⌜ p .0 < 2 * d .vars ⌝ }
-    requires { ⌜ Stands c (list-of (whole d h (now work) .watches) (p .0)) × (0 < c .left) ⌝ }
-    requires { ⌜ Movable (d .vars) (p .0) (at-cursor (whole d h (now work)) c) k ⌝ }
-    ensures { λ r. ⌜ Gone d h (now (work .exit)) (p .0) (neg (getD (at-cursor (whole d h (now (work .entry))) c) k 0)) (b .0) (exchanged (whole d h (now (work .entry))) c (p .0) k) c r ⌝ }
+    requires { ⌜ On d (p .0) c (whole d h (now work)) × More (p .0) c (whole d h (now work)) ⌝ }
+    requires { ⌜ x ≡ node-at (p .0) c (whole d h (now work)) ⌝ }
+    requires { ⌜ Movable (d .vars) (p .0) (at-node (whole d h (now work)) x) k ⌝ }
+    ensures { λ _. ⌜ Gone d h (now (work .exit)) (p .0) (neg (getD (at-node (whole d h (now (work .entry))) x) k 0)) (b .0) (exchanged (whole d h (now (work .entry))) x (p .0) k) c ⌝ }
 {
-    let x = c.cur / 2;
+    let y = x / 2;
     let f = p.negate();
-    let l = clauses::lit_at(d, h, work, x, k);
+    let l = clauses::lit_at(d, h, work, y, k);
     let m = l.negate();
-    clauses::set_lit(d, h, work, x, 1, l);
-    clauses::set_lit(d, h, work, x, k, f);
-    watches::leave(d, h, work, p, c, m, b)
+    clauses::set_lit(d, h, work, y, 1, l);
+    clauses::set_lit(d, h, work, y, k, f);
+    watches::leave(d, h, work, p, c, x, m, b);
 }
 
 // No other literal can be watched. The clause's first literal q is false, which is a conflict, or it becomes true.
-fn settle(d: Sizes, h: Header, work: &mut [u32], p: Lit, c: Cursor, q: Lit) -> Step
+fn settle(d: Sizes, h: Header, work: &mut [u32], p: Lit, c: Cursor, x: usize, q: Lit) -> Step
     requires { ⌜ Rep d h (now work) ⌝ }
     requires { ⌜ (p .0 < 2 * d .vars) × (q .0 < 2 * d .vars) ⌝ }
-    requires { ⌜ Stands c (list-of (whole d h (now work) .watches) (p .0)) × (0 < c .left) ⌝ }
+    requires { ⌜ On d (p .0) c (whole d h (now work)) × More (p .0) c (whole d h (now work)) ⌝ }
+    requires { ⌜ x ≡ node-at (p .0) c (whole d h (now work)) ⌝ }
     requires { ⌜ (is-false (whole d h (now work) .assignment .vars .values) (q .0) ≡ false → h .trail .assigned < d .vars) ⌝ }
-    ensures { λ r. ⌜ Settles d h (now (work .exit)) (p .0) (q .0) c (whole d h (now (work .entry))) r ⌝ }
+    ensures { λ r. ⌜ Settles d h (now (work .exit)) (p .0) (q .0) c x (whole d h (now (work .entry))) r ⌝ }
 {
     let f = is_false(d, h, work, q);
-    let r = pass(d, h, work, p, c, q);
+    let r = pass(d, h, work, p, c, x, q);
     if f {
         let t = h.trail;
         return Step {
@@ -143,7 +143,7 @@ fn settle(d: Sizes, h: Header, work: &mut [u32], p: Lit, c: Cursor, q: Lit) -> S
             clash: true,
         };
     }
-    let k = assignment::enqueue(d, h, work, q, (c.cur / 2) as u32);
+    let k = assignment::enqueue(d, h, work, q, (x / 2) as u32);
     Step {
         head: k,
         cursor: r,
@@ -151,48 +151,48 @@ fn settle(d: Sizes, h: Header, work: &mut [u32], p: Lit, c: Cursor, q: Lit) -> S
     }
 }
 
-// The watch at the cursor, whose blocker is not true; its clause has q first and its false literal second.
-fn look_clause(d: Sizes, h: Header, work: &mut [u32], p: Lit, c: Cursor, q: Lit) -> Step
+// The watch at the cursor, of node x, whose blocker is not true; its clause has q first and its false literal second.
+fn look_clause(d: Sizes, h: Header, work: &mut [u32], p: Lit, c: Cursor, x: usize, q: Lit) -> Step
     requires { ⌜ Rep d h (now work) ⌝ }
     requires { ⌜ p .0 < 2 * d .vars ⌝ }
-    requires { ⌜ Stands c (list-of (whole d h (now work) .watches) (p .0)) × (0 < c .left) ⌝ }
-    requires { ⌜ Lookable (d .vars) (p .0) (h .trail .assigned) (whole d h (now work) .assignment .vars .values) (at-cursor (whole d h (now work)) c) ⌝ }
-    requires { ⌜ q .0 ≡ getD (at-cursor (whole d h (now work)) c) 0 0 ⌝ }
-    ensures { λ r. ⌜ Looks d h (now (work .exit)) (p .0) c (whole d h (now (work .entry))) r ⌝ }
+    requires { ⌜ On d (p .0) c (whole d h (now work)) × More (p .0) c (whole d h (now work)) ⌝ }
+    requires { ⌜ x ≡ node-at (p .0) c (whole d h (now work)) ⌝ }
+    requires { ⌜ Lookable (d .vars) (p .0) (h .trail .assigned) (whole d h (now work) .assignment .vars .values) (at-node (whole d h (now work)) x) ⌝ }
+    requires { ⌜ q .0 ≡ getD (at-node (whole d h (now work)) x) 0 0 ⌝ }
+    ensures { λ r. ⌜ Looks d h (now (work .exit)) (p .0) c x (whole d h (now (work .entry))) r ⌝ }
 {
     if is_true(d, h, work, q) {
-        let r = pass(d, h, work, p, c, q);
+        let r = pass(d, h, work, p, c, x, q);
         return Step {
             head: h,
             cursor: r,
             clash: false,
         };
     }
-    let x = c.cur / 2;
-    let k = new_watch(d, h, work, x);
-    let n = clauses::size(d, h, work, x);
+    let y = x / 2;
+    let k = new_watch(d, h, work, y);
+    let n = clauses::size(d, h, work, y);
     if k < n {
-        let r = go(d, h, work, p, c, k, q);
+        go(d, h, work, p, c, x, k, q);
         return Step {
             head: h,
-            cursor: r,
+            cursor: c,
             clash: false,
         };
     }
-    settle(d, h, work, p, c, q)
+    settle(d, h, work, p, c, x, q)
 }
 
-// One watch of the list of p, a literal that has become true.
-fn look(g: Config, h: Header, work: &mut [u32], p: Lit, c: Cursor) -> Step
+// One watch of the list of p, a literal that has become true: that of node x.
+fn look(g: Config, h: Header, work: &mut [u32], p: Lit, c: Cursor, x: usize) -> Step
     requires { ⌜ Walks g h (now work) (p .0) c ⌝ }
-    requires { ⌜ 0 < c .left ⌝ }
-    ensures { λ r. ⌜ Looked g h (now (work .entry)) (now (work .exit)) (p .0) c r ⌝ }
+    requires { ⌜ More (p .0) c (whole (g .sizes) h (now work)) × (x ≡ node-at (p .0) c (whole (g .sizes) h (now work))) ⌝ }
+    ensures { λ r. ⌜ Looked g h (now (work .entry)) (now (work .exit)) (p .0) c x r ⌝ }
 {
     let d = g.sizes;
-    let x = c.cur;
     let b = watches::blocker(d, h, work, x);
     if is_true(d, h, work, b) {
-        let r = watches::stay(d, h, work, p, c);
+        let r = watches::stay(d, h, work, p, c, x);
         return Step {
             head: h,
             cursor: r,
@@ -200,7 +200,7 @@ fn look(g: Config, h: Header, work: &mut [u32], p: Lit, c: Cursor) -> Step
         };
     }
     let q = false_second(d, h, work, x / 2, p.negate());
-    look_clause(d, h, work, p, c, q)
+    look_clause(d, h, work, p, c, x, q)
 }
 
 // The watches of p in turn.
@@ -212,9 +212,9 @@ fn visit(g: Config, h: Header, work: &mut [u32], p: Lit) -> Propagated
     let d = g.sizes;
     let mut k = h;
     let mut c = watches::walk(d, h, work, p);
-    while 0 < c.left {
-        let s = look(g, k, work, p, c);
-        let x = c.cur;
+    while watches::more(d, k, work, p, c) {
+        let x = watches::node(d, k, work, p, c);
+        let s = look(g, k, work, p, c, x);
         k = s.head;
         c = s.cursor;
         if s.clash {

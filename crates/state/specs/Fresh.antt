@@ -14,13 +14,12 @@ use Rattle.watch.specs.View.{list-of, Under, appended, attached, moved, blocked
 use Rattle.watch.specs.Laws.{node-below}
 use Rattle.watch.specs.Meaning.{as-watches, under-clauses}
 use Rattle.watch.specs.Uses.{blocked-under, appended-under, moved-under, attached-under, as-attached}
-use Rattle.watch.specs.Walk.{Stands, stands-cur}
 use Rattle.watch.specs.declared.Cursor.{Cursor}
 use Rattle.state.specs.declared.Sizes.{Sizes}
 use Rattle.state.specs.declared.Header.{Header}
 use Rattle.state.specs.View.{Whole, whole, state-of, with-watches, with-clauses, Rep, Holds}
 use Rattle.state.specs.ClauseLaws.{count-is}
-use Rattle.state.specs.WatchLaws.{Gone}
+use Rattle.state.specs.WatchLaws.{More, node-at, Gone}
 use Rattle.state.specs.WatchSteps.{lists-count, blockers-count, lists-chains}
 
 pub record Fresh (x : Whole) : Type 0 where
@@ -59,10 +58,8 @@ module _ (d : Sizes) (h : Header) (w : List ℕ) (r : Rep d h w) (f : Fresh (who
   node-stored l i hl hi =
       node-below (2 * length (whole d h w .clauses .clauses)) (whole d h w .watches .lists) (f .under) l i (rw (lists-count d h w r) hl) hi
 
-  pub cursor-stored : (l : ℕ) (c : Cursor) → l < 2 * d .vars → Stands c (list-of (whole d h w .watches) l) → 0 < c .left → c .cur / 2 < length (whole d h w .clauses .clauses)
-  cursor-stored l c hl a p =
-      let g = node-stored l (length (list-of (whole d h w .watches) l) - c .left) hl (omega (arith, a .inside)) in
-      omega (arith, g, stands-cur c (list-of (whole d h w .watches) l) a p)
+  pub cursor-stored : (l : ℕ) (c : Cursor) → l < 2 * d .vars → More l c (whole d h w) → node-at l c (whole d h w) / 2 < length (whole d h w .clauses .clauses)
+  cursor-stored l c hl more = let g = node-stored l (c .passed) hl more in omega arith
 
   pub fresh-moved : (l i m b : ℕ) → l < 2 * d .vars → i < length (list-of (whole d h w .watches) l) → m < 2 * d .vars → l ≢ m
       → Fresh (with-watches (whole d h w) (moved l i m b (whole d h w .watches)))
@@ -73,10 +70,8 @@ module _ (d : Sizes) (h : Header) (w : List ℕ) (r : Rep d h w) (f : Fresh (who
       }
 
   -- a step of a walk
-  pub fresh-gone : (l m b : ℕ) (c y : Cursor) (w′ : List ℕ) → l < 2 * d .vars → m < 2 * d .vars → l ≢ m → Stands c (list-of (whole d h w .watches) l) → 0 < c .left
-      → Gone d h w′ l m b (whole d h w) c y → Fresh (whole d h w′)
-  fresh-gone l m b c y w′ hl hm n a p k =
-      rw (k .holds .whole) (fresh-moved l (length (list-of (whole d h w .watches) l) - c .left) m b hl (omega (arith, a .inside)) hm n)
+  pub fresh-gone : (l m b : ℕ) (c : Cursor) (w′ : List ℕ) → l < 2 * d .vars → m < 2 * d .vars → l ≢ m → More l c (whole d h w) → Gone d h w′ l m b (whole d h w) c → Fresh (whole d h w′)
+  fresh-gone l m b c w′ hl hm n more k = rw (k .holds .whole) (fresh-moved l (c .passed) m b hl more hm n)
 
 -- ---- a clause is attached
 

@@ -4,6 +4,7 @@ use mathlib.Core.Path.{_≡_}
 use mathlib.Core.List.{List, [], _∷_}
 use lib.ListN.{length, getD, drop, replicate}
 use Rattle.region.specs.Split.{split, total}
+use Rattle.model.specs.Limits.{max-variables, max-clauses, max-literals}
 use Rattle.model.specs.State.{State}
 use Rattle.trail.specs.View as tv
 use Rattle.trail.specs.View.{Assignment}
@@ -106,9 +107,9 @@ whole d h w = pack d h (split (shape d) w) (drop (used d) w)
 pub record Room (d : Sizes) (n : ℕ) : Type 0 where
   pub fits : used d ≤ n
   pub some : 1 ≤ d .vars
-  pub vars : d .vars ≤ 4096
-  pub room : d .room ≤ 65535
-  pub lit-room : d .«lit_room» ≤ 1048576
+  pub vars : d .vars ≤ max-variables
+  pub room : d .room ≤ max-clauses
+  pub lit-room : d .«lit_room» ≤ max-literals
 
 pub record Blocks (d : Sizes) (h : Header) (ps : List (List ℕ)) : Type 0 where
   pub trail : tv.Rep (trail-size d) (h .trail) (getD ps 0 [])

@@ -1,7 +1,7 @@
 -- The watch lists' block of work: what its functions ask and ensure, in terms of the whole.
-use Prim.Native.Nat.{ℕ, suc, _+_, _-_}
+use Prim.Native.Nat.{ℕ, _+_, _-_, _<_}
 use native.Mathlib.Omega.{arith}
-use mathlib.Core.Path.{_≡_, sym, ap, subst}
+use mathlib.Core.Path.{_≡_, sym, ap, subst₂}
 use mathlib.Core.List.{List, [], _++_}
 use lib.ListN.{length, getD, set, take, drop}
 use Rattle.region.specs.Split.{split, base}
@@ -17,11 +17,26 @@ use Rattle.state.specs.View.{Whole, shape, used, lists-size, whole, with
 use Rattle.state.specs.Laws.{lent, back, watch-back}
 use Rattle.state.specs.Lending.{came-back}
 
--- the node at the cursor c has gone to the list of m with the blocker b, and the cursor r is at the next
-pub record Gone (d : Sizes) (h : Header) (w′ : List ℕ) (l m b : ℕ) (x : Whole) (c r : Cursor) : Type 0 where
-  pub holds : Holds d h w′ (with-watches x (moved l (length (list-of (x .watches) l) - c .left) m b (x .watches)))
-  pub stands : Stands r (list-of (whole d h w′ .watches) l)
-  pub left : suc (r .left) ≡ c .left
+-- ---- a walk through the list of l
+
+-- the cursor is in the list, or at its end
+abbrev pub On : Sizes → ℕ → Cursor → Whole → Type 0
+On d l c x = Stands (lists-size d) l c (list-of (x .watches) l)
+
+-- it is not at the end
+abbrev pub More : ℕ → Cursor → Whole → Type 0
+More l c x = c .passed < length (list-of (x .watches) l)
+
+-- its node
+abbrev pub node-at : ℕ → Cursor → Whole → ℕ
+node-at l c x = getD (list-of (x .watches) l) (c .passed) 0
+
+-- the node at the cursor c has gone to the list of m with the blocker b: the cursor is at the next
+pub record Gone (d : Sizes) (h : Header) (w′ : List ℕ) (l m b : ℕ) (x : Whole) (c : Cursor) : Type 0 where
+  pub holds : Holds d h w′ (with-watches x (moved l (c .passed) m b (x .watches)))
+  pub on : On d l c (whole d h w′)
+
+-- ---- the block
 
 module _ (d : Sizes) (h : Header) (w : List ℕ) (r : Rep d h w) where
   -- the block s, lent as b
@@ -52,15 +67,14 @@ module _ (d : Sizes) (h : Header) (w : List ℕ) (r : Rep d h w) where
           let k′ : wv.Holds (lists-size d) ys (f (whole d h w .watches)) = rw (lists-view s (take (e - a) (drop a w)) es lists-part, es) at k in
           watch-back d h w _ ys r (came-back (used d) w ys a e (omega arith) (omega arith) (r .room .fits) n) kept k′
 
-      pub leave-returns : (l m b : ℕ) (c x : Cursor) → ww.Gone s ys l m b (wv.view s (take (e - a) (drop a w))) c x
-          → Gone d h (take a w ++ (ys ++ drop (e - a) (drop a w))) l m b (whole d h w) c x
+      pub leave-returns : (l m b : ℕ) (c : Cursor) → ww.Gone s ys l m b (wv.view s (take (e - a) (drop a w))) c
+          → Gone d h (take a w ++ (ys ++ drop (e - a) (drop a w))) l m b (whole d h w) c
       unfolding whole
-      leave-returns l m b c x k =
+      leave-returns l m b c k =
           let same : wv.view s ys ≡ whole d h (take a w ++ (ys ++ drop (e - a) (drop a w))) .watches =
           rw es (sym (ap (λ (ps : List (List ℕ)). wv.view (lists-size d) (getD ps 2 [])) kept))
           in
           record {
-            holds = lists-returns (λ v. moved l (length (list-of v l) - c .left) m b v) (k .holds);
-            stands = subst (λ (v : Watches). Stands x (list-of v l)) same (k .stands);
-            left = k .left;
+            holds = lists-returns (moved l (c .passed) m b) (k .holds);
+            on = subst₂ (λ (t : Lists) (v : Watches). Stands t l c (list-of v l)) es same (k .stands);
           }

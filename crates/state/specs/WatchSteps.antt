@@ -1,24 +1,22 @@
 -- What the functions on watch lists do to the definition's watches, in terms of the whole.
 use Prim.Native.Nat.{ℕ, suc, _*_, _/_, _<_}
 use native.Mathlib.Omega.{arith}
-use mathlib.Core.Path.{_≡_, ap}
+use mathlib.Core.Path.{_≡_, ap, _∙_}
 use mathlib.Core.Logic.{_≢_}
 use mathlib.Core.List.{List, [], _∷_, _++_}
-use lib.ListN.{length, getD, set}
+use lib.ListN.{length, getD, set, take, drop}
 use Rattle.region.specs.Split.{split}
 use Rattle.model.specs.Store.{push-watch}
 use Rattle.watch.specs.View as wv
 use Rattle.watch.specs.View.{list-of, without, Chains, Free, appended, moved, blocked}
 use Rattle.watch.specs.Meaning.{as-watch, as-watches, as-appended, as-moved, as-blocked}
 use Rattle.watch.specs.Stores as ws
-use Rattle.watch.specs.Cursors as wc
 use Rattle.watch.specs.Steps as wt
-use Rattle.watch.specs.Walk.{Stands, kept-of, rest-of}
 use Rattle.watch.specs.declared.Cursor.{Cursor}
 use Rattle.state.specs.declared.Sizes.{Sizes}
 use Rattle.state.specs.declared.Header.{Header}
-use Rattle.state.specs.View.{Whole, shape, lists-size, whole, with-watches, Rep, Holds}
-use Rattle.state.specs.WatchLaws.{Gone}
+use Rattle.state.specs.View.{Whole, shape, lists-size, whole, Rep, Holds}
+use Rattle.state.specs.WatchLaws.{More, node-at}
 
 -- the block of a slice that holds the whole x
 pub lists-hold : {d : Sizes} {h : Header} {w : List ℕ} {x : Whole} → Holds d h w x → wv.Holds (lists-size d) (getD (split (shape d) w) 2 []) (x .watches)
@@ -32,7 +30,7 @@ module _ (d : Sizes) (h : Header) (w : List ℕ) (r : Rep d h w) where
 
   pub blockers-count : length (whole d h w .watches .blockers) ≡ 2 * d .room
   unfolding whole
-  blockers-count = ws.blockers-length (lists-size d) (getD (split (shape d) w) 2 []) (r .blocks .watch .room)
+  blockers-count = ws.blockers-length (lists-size d) (getD (split (shape d) w) 2 [])
 
   pub lists-chains : Chains (2 * d .room) (whole d h w .watches .lists)
   unfolding whole
@@ -60,32 +58,28 @@ module _ (d : Sizes) (h : Header) (w : List ℕ) (r : Rep d h w) where
 
   -- ---- a walk through the list of l
 
-  module _ (l : ℕ) (hl : l < 2 * d .vars) (c : Cursor) (a : Stands c (list-of (whole d h w .watches) l)) (n : ℕ) (e : c .left ≡ suc n) where
-    pub cursor-low : c .cur < 2 * d .room
-    unfolding whole
-    cursor-low = wc.cursor-under (lists-size d) (getD (split (shape d) w) 2 []) (r .blocks .watch) l hl c a (omega arith)
+  module _ (l : ℕ) (hl : l < 2 * d .vars) (c : Cursor) (more : More l c (whole d h w)) where
+    -- its node is one of a clause that can be stored
+    pub cursor-low : node-at l c (whole d h w) < 2 * d .room
+    cursor-low = node-low l (c .passed) hl more
 
-    -- the cursor's watch is the first that is left
-    pub watch-left : rest-of (c .left) (getD (as-watches (whole d h w .watches)) l []) ≡ as-watch (whole d h w .watches .blockers) (c .cur) ∷ rest-of n (getD (as-watches (whole d h w .watches)) l [])
+    -- the watch at the cursor is the first that is left
+    pub watch-left : drop (c .passed) (getD (as-watches (whole d h w .watches)) l []) ≡ as-watch (whole d h w .watches .blockers) (node-at l c (whole d h w)) ∷ drop (suc (c .passed)) (getD (as-watches (whole d h w .watches)) l [])
     unfolding whole
-    watch-left = wt.watch-left (lists-size d) (getD (split (shape d) w) 2 []) (r .blocks .watch) l hl c a n e
-
-    -- it stays
-    pub watch-stays : kept-of n (getD (as-watches (whole d h w .watches)) l []) ≡ kept-of (c .left) (getD (as-watches (whole d h w .watches)) l []) ++ (as-watch (whole d h w .watches .blockers) (c .cur) ∷ [])
-    unfolding whole
-    watch-stays = wt.watch-stays (lists-size d) (getD (split (shape d) w) 2 []) (r .blocks .watch) l hl c a n e
+    watch-left = wt.watch-left (lists-size d) (getD (split (shape d) w) 2 []) (r .blocks .watch) l hl (c .passed) more
 
     -- it gets the blocker b
-    pub watch-blocked : (b : ℕ) (w′ : List ℕ) → Holds d h w′ (with-watches (whole d h w) (blocked (c .cur) b (whole d h w .watches)))
-        → as-watches (whole d h w′ .watches) ≡ set (as-watches (whole d h w .watches)) l (kept-of (c .left) (getD (as-watches (whole d h w .watches)) l []) ++ (record { clause = c .cur / 2; blocker = b } ∷ rest-of n (getD (as-watches (whole d h w .watches)) l [])))
+    pub watch-blocked : (b : ℕ) {h′ : Header} {w′ : List ℕ} {x : Whole} → Holds d h′ w′ x → x .watches ≡ blocked (node-at l c (whole d h w)) b (whole d h w .watches)
+        → as-watches (whole d h′ w′ .watches) ≡ set (as-watches (whole d h w .watches)) l (take (c .passed) (getD (as-watches (whole d h w .watches)) l []) ++ (record { clause = node-at l c (whole d h w) / 2; blocker = b } ∷ drop (suc (c .passed)) (getD (as-watches (whole d h w .watches)) l [])))
     unfolding whole
-    watch-blocked b w′ k =
-        wt.watch-blocked (lists-size d) (getD (split (shape d) w) 2 []) (r .blocks .watch) l hl c a n e b (getD (split (shape d) w′) 2 []) (lists-hold k)
+    watch-blocked b {w′ = w′} k e =
+        wt.watch-blocked (lists-size d) (getD (split (shape d) w) 2 []) (r .blocks .watch) l hl (c .passed) more b (getD (split (shape d) w′) 2 [])
+        (record { rep = lists-hold k .rep; view = lists-hold k .view ∙ e })
 
     -- it goes to the list of m with the blocker b
-    pub watch-gone : (m b : ℕ) (w′ : List ℕ) (x : Cursor) → m < 2 * d .vars → l ≢ m → Gone d h w′ l m b (whole d h w) c x
-        → as-watches (whole d h w′ .watches) ≡ push-watch (set (as-watches (whole d h w .watches)) l (kept-of (c .left) (getD (as-watches (whole d h w .watches)) l []) ++ rest-of n (getD (as-watches (whole d h w .watches)) l []))) m (record { clause = c .cur / 2; blocker = b })
+    pub watch-gone : (m b : ℕ) {h′ : Header} {w′ : List ℕ} {x : Whole} → m < 2 * d .vars → l ≢ m → Holds d h′ w′ x → x .watches ≡ moved l (c .passed) m b (whole d h w .watches)
+        → as-watches (whole d h′ w′ .watches) ≡ push-watch (set (as-watches (whole d h w .watches)) l (without (c .passed) (getD (as-watches (whole d h w .watches)) l []))) m (record { clause = node-at l c (whole d h w) / 2; blocker = b })
     unfolding whole
-    watch-gone m b w′ x hm ne k =
-        wt.watch-gone (lists-size d) (getD (split (shape d) w) 2 []) (r .blocks .watch) l hl c a n e m b (getD (split (shape d) w′) 2 []) x hm ne
-        (record { holds = lists-hold (k .holds); stands = k .stands; left = k .left })
+    watch-gone m b {w′ = w′} hm ne k e =
+        wt.watch-gone (lists-size d) (getD (split (shape d) w) 2 []) (r .blocks .watch) l hl (c .passed) more m b (getD (split (shape d) w′) 2 []) hm ne
+        (record { rep = lists-hold k .rep; view = lists-hold k .view ∙ e })

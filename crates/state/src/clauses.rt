@@ -5,6 +5,7 @@ ghost use mathlib.Core.List.{[]};
 ghost use Prim.Native.Nat.{_+_, _≤_, _<_};
 ghost use lib.ListN.{length, getD};
 ghost use lib.Dec.{leb, ltb};
+ghost use Rattle.model.specs.Limits.{max-variables, max-clauses, max-literals};
 ghost use Rattle.model.specs.Store.{stored-literals};
 ghost use Rattle.region.specs.Split.{split, base};
 ghost use Rattle.store.specs.View.{clause-of, lit-set, lit-pushed, closed, discarded};
@@ -28,17 +29,17 @@ fn sizes(d: Sizes) -> StoreSize
 
 // Where the block begins and ends.
 fn begin(d: Sizes) -> usize
-    requires { ⌜ (d .vars ≤ 4096) × (d .room ≤ 65535) ⌝ }
+    requires { ⌜ (d .vars ≤ max-variables) × (d .room ≤ max-clauses) ⌝ }
     ensures { λ r. ⌜ r ≡ base 3 (shape d) ⌝ }
 {
-    19 * d.vars + 4 * d.room
+    21 * d.vars + 4 * d.room
 }
 
 fn end(d: Sizes) -> usize
-    requires { ⌜ (d .vars ≤ 4096) × (d .room ≤ 65535) × (d .«lit_room» ≤ 1048576) ⌝ }
+    requires { ⌜ (d .vars ≤ max-variables) × (d .room ≤ max-clauses) × (d .«lit_room» ≤ max-literals) ⌝ }
     ensures { λ r. ⌜ r ≡ base 3 (shape d) + getD (shape d) 3 0 ⌝ }
 {
-    19 * d.vars + 5 * d.room + 1 + d.lit_room
+    21 * d.vars + 5 * d.room + 1 + d.lit_room
 }
 
 fn block(d: Sizes, work: &[u32]) -> &[u32]

@@ -3,6 +3,7 @@ ghost use mathlib.Core.Path.{_≡_};
 ghost use mathlib.Core.List.{[]};
 ghost use Prim.Native.Nat.{_+_, _*_, _≤_, _<_};
 ghost use lib.ListN.{length, getD};
+ghost use Rattle.model.specs.Limits.{max-variables, max-clauses, max-literals};
 ghost use Rattle.region.specs.Split.{split, base};
 ghost use Rattle.model.specs.Final.{insert};
 ghost use Rattle.scratch.specs.View.{marked, buffered, stacked, noted};
@@ -110,7 +111,7 @@ pub fn set_noted(d: Sizes, h: Header, work: &mut [u32], k: usize, p: Lit)
 
 // The final clause's block: its sizes, and where it begins and ends.
 fn final_size(d: Sizes) -> Size
-    requires { ⌜ d .vars ≤ 4096 ⌝ }
+    requires { ⌜ d .vars ≤ max-variables ⌝ }
     ensures { λ r. ⌜ r ≡ final-size d ⌝ }
 {
     let n = d.vars;
@@ -121,17 +122,17 @@ fn final_size(d: Sizes) -> Size
 }
 
 fn final_begin(d: Sizes) -> usize
-    requires { ⌜ (d .vars ≤ 4096) × (d .room ≤ 65535) × (d .«lit_room» ≤ 1048576) ⌝ }
+    requires { ⌜ (d .vars ≤ max-variables) × (d .room ≤ max-clauses) × (d .«lit_room» ≤ max-literals) ⌝ }
     ensures { λ r. ⌜ r ≡ base 4 (shape d) ⌝ }
 {
-    19 * d.vars + 5 * d.room + 1 + d.lit_room
+    21 * d.vars + 5 * d.room + 1 + d.lit_room
 }
 
 fn final_end(d: Sizes) -> usize
-    requires { ⌜ (d .vars ≤ 4096) × (d .room ≤ 65535) × (d .«lit_room» ≤ 1048576) ⌝ }
+    requires { ⌜ (d .vars ≤ max-variables) × (d .room ≤ max-clauses) × (d .«lit_room» ≤ max-literals) ⌝ }
     ensures { λ r. ⌜ r ≡ base 4 (shape d) + getD (shape d) 4 0 ⌝ }
 {
-    22 * d.vars + 5 * d.room + 2 + d.lit_room
+    24 * d.vars + 5 * d.room + 2 + d.lit_room
 }
 
 fn final_block(d: Sizes, work: &[u32]) -> &[u32]

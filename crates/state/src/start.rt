@@ -36,7 +36,7 @@ fn fill_watches(d: Sizes, work: &mut [u32])
     ensures { λ _. ⌜ Filled d (now (work .entry)) (now (work .exit)) 2 (Unlisted d) ⌝ }
 {
     let a = 13 * d.vars;
-    let e = 19 * d.vars + 4 * d.room;
+    let e = 21 * d.vars + 4 * d.room;
     let n = 2 * d.vars;
     let m = 2 * d.room;
     watch::start(Lists { slots: n, nodes: m }, &mut work[a..e]);
@@ -46,8 +46,8 @@ fn fill_store(d: Sizes, work: &mut [u32]) -> StoreHead
     requires { ⌜ Room d (length (now work)) ⌝ }
     ensures { λ r. ⌜ Filled d (now (work .entry)) (now (work .exit)) 3 (Unstored d r) ⌝ }
 {
-    let a = 19 * d.vars + 4 * d.room;
-    let e = 19 * d.vars + 5 * d.room + 1 + d.lit_room;
+    let a = 21 * d.vars + 4 * d.room;
+    let e = 21 * d.vars + 5 * d.room + 1 + d.lit_room;
     store::start(
         StoreSize {
             room: d.room,
@@ -61,8 +61,8 @@ fn fill_final(d: Sizes, work: &mut [u32]) -> Head
     requires { ⌜ Room d (length (now work)) ⌝ }
     ensures { λ r. ⌜ Filled d (now (work .entry)) (now (work .exit)) 4 (Unexplained d r) ⌝ }
 {
-    let a = 19 * d.vars + 5 * d.room + 1 + d.lit_room;
-    let e = 22 * d.vars + 5 * d.room + 2 + d.lit_room;
+    let a = 21 * d.vars + 5 * d.room + 1 + d.lit_room;
+    let e = 24 * d.vars + 5 * d.room + 2 + d.lit_room;
     let n = 2 * d.vars;
     let m = d.vars + 1;
     litset::start(Size { lits: n, room: m }, &mut work[a..e])

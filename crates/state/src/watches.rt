@@ -1,15 +1,16 @@
 // The watch lists.
 ghost use mathlib.Core.Path.{_≡_};
 ghost use mathlib.Core.List.{[]};
-ghost use Prim.Native.Nat.{suc, _+_, _*_, _≤_, _<_};
+ghost use Prim.Native.Nat.{_+_, _*_, _≤_, _<_};
 ghost use lib.ListN.{length, getD};
+ghost use lib.Dec.{ltb};
+ghost use Rattle.model.specs.Limits.{max-variables, max-clauses};
 ghost use Rattle.region.specs.Split.{split, base};
 ghost use Rattle.watch.specs.View.{list-of, blocked};
-ghost use Rattle.watch.specs.Walk.{Stands};
 ghost use Rattle.state.specs.View.{Room, Rep, Holds, whole, shape, lists-size, with-watches};
 ghost use Rattle.state.specs.Laws.{with-store};
 ghost use Rattle.state.specs.ClauseLaws.{counted};
-ghost use Rattle.state.specs.WatchLaws.{Gone};
+ghost use Rattle.state.specs.WatchLaws.{On, More, node-at, Gone};
 ghost use Rattle.state.specs.Fresh.{Attachable, attached-in, Storable, Stored};
 use super::Header;
 use super::Sizes;
@@ -19,7 +20,7 @@ use watch::Cursor;
 use watch::Lists;
 
 fn lists(d: Sizes) -> Lists
-    requires { ⌜ (d .vars ≤ 4096) × (d .room ≤ 65535) ⌝ }
+    requires { ⌜ (d .vars ≤ max-variables) × (d .room ≤ max-clauses) ⌝ }
     ensures { λ r. ⌜ r ≡ lists-size d ⌝ }
 {
     Lists {
@@ -30,17 +31,17 @@ fn lists(d: Sizes) -> Lists
 
 // Where the block begins and ends.
 fn begin(d: Sizes) -> usize
-    requires { ⌜ d .vars ≤ 4096 ⌝ }
+    requires { ⌜ d .vars ≤ max-variables ⌝ }
     ensures { λ r. ⌜ r ≡ base 2 (shape d) ⌝ }
 {
     13 * d.vars
 }
 
 fn end(d: Sizes) -> usize
-    requires { ⌜ (d .vars ≤ 4096) × (d .room ≤ 65535) ⌝ }
+    requires { ⌜ (d .vars ≤ max-variables) × (d .room ≤ max-clauses) ⌝ }
     ensures { λ r. ⌜ r ≡ base 2 (shape d) + getD (shape d) 2 0 ⌝ }
 {
-    19 * d.vars + 4 * d.room
+    21 * d.vars + 4 * d.room
 }
 
 fn block(d: Sizes, work: &[u32]) -> &[u32]
@@ -50,25 +51,6 @@ fn block(d: Sizes, work: &[u32]) -> &[u32]
     let a = begin(d);
     let e = end(d);
     &work[a..e]
-}
-
-// How many nodes the list of l has.
-pub fn count(d: Sizes, h: Header, work: &[u32], l: Lit) -> usize
-    requires { ⌜ Rep d h (now work) ⌝ }
-    requires { ⌜ l .0 < 2 * d .vars ⌝ }
-    ensures { λ r. ⌜ r ≡ length (list-of (whole d h (now (work .entry)) .watches) (l .0)) ⌝ }
-{
-    watch::count(lists(d), block(d, work), l)
-}
-
-// The first node of a list that has one.
-pub fn first(d: Sizes, h: Header, work: &[u32], l: Lit) -> usize
-    requires { ⌜ Rep d h (now work) ⌝ }
-    requires { ⌜ l .0 < 2 * d .vars ⌝ }
-    requires { ⌜ 0 < length (list-of (whole d h (now work) .watches) (l .0)) ⌝ }
-    ensures { λ r. ⌜ (r ≡ getD (list-of (whole d h (now (work .entry)) .watches) (l .0)) 0 0) × (r < 2 * d .room) ⌝ }
-{
-    watch::first(lists(d), block(d, work), l)
 }
 
 pub fn blocker(d: Sizes, h: Header, work: &[u32], x: usize) -> Lit
@@ -93,31 +75,53 @@ pub fn set_blocker(d: Sizes, h: Header, work: &mut [u32], x: usize, b: Lit)
 pub fn walk(d: Sizes, h: Header, work: &[u32], l: Lit) -> Cursor
     requires { ⌜ Rep d h (now work) ⌝ }
     requires { ⌜ l .0 < 2 * d .vars ⌝ }
-    ensures { λ r. ⌜ Stands r (list-of (whole d h (now (work .entry)) .watches) (l .0)) × (r .left ≡ length (list-of (whole d h (now (work .entry)) .watches) (l .0))) ⌝ }
+    ensures { λ r. ⌜ On d (l .0) r (whole d h (now (work .entry))) × (r .passed ≡ 0) ⌝ }
 {
     watch::walk(lists(d), block(d, work), l)
 }
 
-// The node at the cursor stays: on to the next.
-pub fn stay(d: Sizes, h: Header, work: &[u32], l: Lit, c: Cursor) -> Cursor
+// Whether the cursor is at a node, and not at the list's end.
+pub fn more(d: Sizes, h: Header, work: &[u32], l: Lit, c: Cursor) -> bool
     requires { ⌜ Rep d h (now work) ⌝ }
     requires { ⌜ l .0 < 2 * d .vars ⌝ }
-    requires { ⌜ Stands c (list-of (whole d h (now work) .watches) (l .0)) × (0 < c .left) ⌝ }
-    ensures { λ r. ⌜ Stands r (list-of (whole d h (now (work .entry)) .watches) (l .0)) × (suc (r .left) ≡ c .left) ⌝ }
+    requires { ⌜ On d (l .0) c (whole d h (now work)) ⌝ }
+    ensures { λ r. ⌜ r ≡ ltb (c .passed) (length (list-of (whole d h (now (work .entry)) .watches) (l .0))) ⌝ }
 {
-    watch::stay(lists(d), block(d, work), l, c)
+    watch::more(lists(d), block(d, work), l, c)
 }
 
-// The node at the cursor goes to the end of the list of m, with the blocker b: on to the next.
-pub fn leave(d: Sizes, h: Header, work: &mut [u32], l: Lit, c: Cursor, m: Lit, b: Lit) -> Cursor
+// The node at the cursor.
+pub fn node(d: Sizes, h: Header, work: &[u32], l: Lit, c: Cursor) -> usize
+    requires { ⌜ Rep d h (now work) ⌝ }
+    requires { ⌜ l .0 < 2 * d .vars ⌝ }
+    requires { ⌜ On d (l .0) c (whole d h (now work)) × More (l .0) c (whole d h (now work)) ⌝ }
+    ensures { λ r. ⌜ (r ≡ node-at (l .0) c (whole d h (now (work .entry)))) × (r < 2 * d .room) ⌝ }
+{
+    watch::node(lists(d), block(d, work), l, c)
+}
+
+// The node x at the cursor stays: on to the next.
+pub fn stay(d: Sizes, h: Header, work: &[u32], l: Lit, c: Cursor, x: usize) -> Cursor
+    requires { ⌜ Rep d h (now work) ⌝ }
+    requires { ⌜ l .0 < 2 * d .vars ⌝ }
+    requires { ⌜ On d (l .0) c (whole d h (now work)) × More (l .0) c (whole d h (now work)) ⌝ }
+    requires { ⌜ x ≡ node-at (l .0) c (whole d h (now work)) ⌝ }
+    ensures { λ r. ⌜ On d (l .0) r (whole d h (now (work .entry))) × (r .passed ≡ c .passed + 1) ⌝ }
+{
+    watch::stay(lists(d), block(d, work), l, c, x)
+}
+
+// The node x at the cursor goes to the end of the list of m, with the blocker b. The cursor is at the next as it is.
+pub fn leave(d: Sizes, h: Header, work: &mut [u32], l: Lit, c: Cursor, x: usize, m: Lit, b: Lit)
     requires { ⌜ Rep d h (now work) ⌝ }
     requires { ⌜ (l .0 < 2 * d .vars) × (m .0 < 2 * d .vars) × (l .0 ≡ m .0 → ⊥) ⌝ }
-    requires { ⌜ Stands c (list-of (whole d h (now work) .watches) (l .0)) × (0 < c .left) ⌝ }
-    ensures { λ r. ⌜ Gone d h (now (work .exit)) (l .0) (m .0) (b .0) (whole d h (now (work .entry))) c r ⌝ }
+    requires { ⌜ On d (l .0) c (whole d h (now work)) × More (l .0) c (whole d h (now work)) ⌝ }
+    requires { ⌜ x ≡ node-at (l .0) c (whole d h (now work)) ⌝ }
+    ensures { λ _. ⌜ Gone d h (now (work .exit)) (l .0) (m .0) (b .0) (whole d h (now (work .entry))) c ⌝ }
 {
     let a = begin(d);
     let e = end(d);
-    watch::leave(lists(d), &mut work[a..e], l, c, m, b)
+    watch::leave(lists(d), &mut work[a..e], l, c, x, m, b);
 }
 
 // The first two literals of the last clause c are watched, each with the other as blocker.

@@ -1,9 +1,8 @@
 // Runs the state's functions over one work slice of noise. The gate compares what it writes.
-ghost use Prim.Native.Nat.{_*_, _<_, _≤_};
+ghost use Prim.Native.Nat.{_+_, _*_, _<_, _≤_};
 ghost use mathlib.Core.Path.{_≡_};
 ghost use lib.ListN.{length};
-ghost use Rattle.watch.specs.View.{list-of};
-ghost use Rattle.watch.specs.Walk.{Stands};
+ghost use Rattle.state.specs.WatchLaws.{On, More};
 ghost use Rattle.state.specs.View.{Room, Rep, whole};
 ghost use Rattle.tour.specs.Live.{Live};
 use clause::Lit;
@@ -113,13 +112,13 @@ fn all_clauses(d: Sizes, h: Header, work: &[u32])
 fn visit(d: Sizes, h: Header, work: &[u32], l: Lit, c: Cursor) -> Cursor
     requires { ⌜ Rep d h (now work) ⌝ }
     requires { ⌜ l .0 < 2 * d .vars ⌝ }
-    requires { ⌜ Stands c (list-of (whole d h (now work) .watches) (l .0)) × (0 < c .left) ⌝ }
-    ensures { λ r. ⌜ Stands r (list-of (whole d h (now (work .entry)) .watches) (l .0)) × (r .left < c .left) ⌝ }
+    requires { ⌜ On d (l .0) c (whole d h (now work)) × More (l .0) c (whole d h (now work)) ⌝ }
+    ensures { λ r. ⌜ On d (l .0) r (whole d h (now (work .entry))) × (r .passed ≡ c .passed + 1) ⌝ }
 {
-    let x = c.cur;
+    let x = watches::node(d, h, work, l, c);
     number(x as u64);
     number(wide(watches::blocker(d, h, work, x).0));
-    watches::stay(d, h, work, l, c)
+    watches::stay(d, h, work, l, c, x)
 }
 
 fn list(d: Sizes, h: Header, work: &[u32], l: Lit)
@@ -127,7 +126,7 @@ fn list(d: Sizes, h: Header, work: &[u32], l: Lit)
     requires { ⌜ l .0 < 2 * d .vars ⌝ }
 {
     let mut c = watches::walk(d, h, work, l);
-    while 0 < c.left {
+    while watches::more(d, h, work, l, c) {
         c = visit(d, h, work, l, c);
     }
     io::write_all(1, b"| ");

@@ -9,6 +9,7 @@ use mathlib.Core.List.{List, [], _∷_, _++_}
 use lib.ListN.{length, getD, take, length-append, length-take}
 use lib.Seq.{getD-at}
 use lib.Dec.{ltb}
+use borrow.Author.Tests.{ltb-true, ltb-false}
 use Rattle.model.specs.Lit.{var}
 use Rattle.model.specs.State.{State, VarState, initial-state, decision-level}
 use Rattle.model.specs.Trail.{unchecked-enqueue, new-decision-level, vars-until, level-end}
@@ -17,7 +18,6 @@ use Rattle.trail.specs.View.{LitsOf, Undoable, enqueued, next-level, until}
 use Rattle.store.specs.View.{lit-pushed, discarded, put-pushed}
 use Rattle.store.specs.Cells.{put-pushed-more}
 use Rattle.watch.specs.View.{list-of, blocked}
-use Rattle.watch.specs.Walk.{Stands}
 use Rattle.litset.specs.View.{Members}
 use Rattle.watch.specs.declared.Cursor.{Cursor}
 use Rattle.state.specs.declared.Sizes.{Sizes}
@@ -26,8 +26,7 @@ use Rattle.state.specs.View.{Whole, whole, state-of, Rep, Holds, with-assignmen
 use Rattle.state.specs.StartLaws.{Started}
 use Rattle.state.specs.AssignmentLaws.{whole-until, assigned-counted, levels-counted}
 use Rattle.state.specs.ClauseLaws.{count-is, literals-is, pushed-is}
-use Rattle.state.specs.WatchLaws.{Gone}
-use Rattle.state.specs.WatchSteps.{cursor-low}
+use Rattle.state.specs.WatchLaws.{More, Gone}
 use Rattle.state.specs.Fresh.{Fresh, fresh-same, fresh-blocked, fresh-gone, Storable, Stored, stored-in}
 
 -- the literals of the trail are of variables
@@ -96,14 +95,23 @@ module _ {d : Sizes} {h r : Header} {w w′ : List ℕ} (v : Live d h w) where
   pub live-stored : Stored d h r w w′ → Live d r w′
   live-stored k = record { rep = k .holds .rep; fresh = k .fresh; lits = rw (k .holds .whole) (v .lits) }
 
-pub live-gone : {d : Sizes} {h : Header} {w w′ : List ℕ} (v : Live d h w) (l m b : ℕ) (c y : Cursor) → l < 2 * d .vars → m < 2 * d .vars → l ≢ m
-    → Stands c (list-of (whole d h w .watches) l) → 0 < c .left → Gone d h w′ l m b (whole d h w) c y → Live d h w′
-live-gone {d} {h} {w} {w′} v l m b c y hl hm n a p k =
+pub live-gone : {d : Sizes} {h : Header} {w w′ : List ℕ} (v : Live d h w) (l m b : ℕ) (c : Cursor) → l < 2 * d .vars → m < 2 * d .vars → l ≢ m
+    → More l c (whole d h w) → Gone d h w′ l m b (whole d h w) c → Live d h w′
+live-gone {d} {h} {w} {w′} v l m b c hl hm n p k =
     record {
       rep = k .holds .rep;
-      fresh = fresh-gone d h w (v .rep) (v .fresh) l m b c y w′ hl hm n a p k;
+      fresh = fresh-gone d h w (v .rep) (v .fresh) l m b c w′ hl hm n p k;
       lits = rw (k .holds .whole) (v .lits);
     }
+
+-- ---- the first node of a list, as tested by the code
+
+module _ (i : ℕ) (xs : List ℕ) (b : Bool) (t : b ≡ ltb i (length xs)) where
+  pub has-one : b ≡ true → i < length xs
+  has-one f = ltb-true i (length xs) (sym t ∙ f)
+
+  pub has-none : b ≡ false → i ≡ 0 → length xs ≡ 0
+  has-none f e = let n : length xs ≤ i = ltb-false i (length xs) (sym t ∙ f) in omega arith
 
 -- ---- the way back, as tested by the code
 
@@ -150,9 +158,6 @@ pub live-pushed : {d : Sizes} {h r : Header} {w w′ : List ℕ} (v : Live d h w
 live-pushed v ps k = live-of k (record { under = v .fresh .under }) (v .lits)
 
 -- ---- what the readers ask
-
-pub cursor-in : {d : Sizes} {h : Header} {w : List ℕ} {l : ℕ} {c : Cursor} → Rep d h w → l < 2 * d .vars → Stands c (list-of (whole d h w .watches) l) → 0 < c .left → c .cur < 2 * d .room
-cursor-in {d} {h} {w} {l} {c} r hl a p = cursor-low d h w r l hl c a (c .left - 1) (omega arith)
 
 pub clause-in : {d : Sizes} {h : Header} {w : List ℕ} {c : ℕ} → Rep d h w → c < h .store .clauses → c < length (whole d h w .clauses .clauses)
 clause-in {d} {h} {w} r g = rw (count-is d h w r) at g

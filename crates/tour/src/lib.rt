@@ -75,10 +75,11 @@ pub fn reblock(d: Sizes, h: Header, work: &mut [u32], l: Lit, b: Lit)
     if (l.0 as usize) >= 2 * d.vars {
         return;
     }
-    if watches::count(d, h, work, l) == 0 {
+    let c = watches::walk(d, h, work, l);
+    if !watches::more(d, h, work, l, c) {
         return;
     }
-    let x = watches::first(d, h, work, l);
+    let x = watches::node(d, h, work, l, c);
     watches::set_blocker(d, h, work, x, b);
 }
 
@@ -98,10 +99,11 @@ pub fn send(d: Sizes, h: Header, work: &mut [u32], l: Lit, m: Lit, b: Lit)
         return;
     }
     let c = watches::walk(d, h, work, l);
-    if c.left == 0 {
+    if !watches::more(d, h, work, l, c) {
         return;
     }
-    watches::leave(d, h, work, l, c, m, b);
+    let x = watches::node(d, h, work, l, c);
+    watches::leave(d, h, work, l, c, x, m, b);
 }
 
 // Stores a clause of three literals and attaches it.

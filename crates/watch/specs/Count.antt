@@ -4,7 +4,8 @@ use native.Mathlib.Omega.{arith}
 use native.Mathlib.Nat.{not-suc-le-zero}
 use native.Mathlib.Decide.{ℕ-discrete, decLe}
 use mathlib.Core.Bool.{Bool, true, false}
-use mathlib.Core.Path.{_≡_, refl, ap}
+use mathlib.Core.Path.{_≡_, refl, sym, ap}
+use mathlib.Core.Logic.{_≢_}
 use mathlib.Core.List.{List, [], _∷_, _++_}
 use lib.ListN.{length, getD, take, drop}
 use lib.Dec.{eqb, leb}
@@ -59,6 +60,10 @@ count-without p (x ∷ xs) (suc i) h = omega (arith, count-without p xs i (omega
 pub count-imp : (p q : ℕ → Bool) → ((y : ℕ) → p y ≡ true → q y ≡ true) → (xs : List ℕ) → count p xs ≤ count q xs
 count-imp p q h [] = omega arith
 count-imp p q h (x ∷ xs) = omega (arith, bit-imp (p x) (q x) (h x), count-imp p q h xs)
+
+-- a node differs from one that does not occur
+pub not-here : (y x : ℕ) (xs : List ℕ) → occ y (x ∷ xs) ≡ 0 → x ≢ y
+not-here y x xs e q = let one : bit (eqb y x) ≡ 1 = ap bit (eq-eqb y x (sym q)) in omega arith
 
 -- y stands at i, so it occurs
 pub occ-at : (xs : List ℕ) (i : ℕ) → i < length xs → 1 ≤ occ (getD xs i 0) xs

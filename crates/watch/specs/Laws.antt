@@ -12,7 +12,7 @@ use lib.Dec.{eqb, leb}
 use borrow.Author.Tests.{eq-eqb, ne-eqb, eqb-true, lt-leb, leb-false}
 use Rattle.region.specs.Table.{sumOf, sum-set, sum-get, sum-two}
 use Rattle.watch.specs.Count.{bit, count, occ, over, bit-le, bit-zero, same-bit, count-append, count-at, count-without, occ-at, sum-le, over-less, occ-over, sum-most, sum-fewer}
-use Rattle.watch.specs.View.{place, Chains, Apart, Under, Free, without}
+use Rattle.watch.specs.View.{Chains, Apart, Under, Free, without}
 
 -- ---- one list less a node
 
@@ -45,31 +45,6 @@ one-place (x ∷ xs) once zero (suc j) hi hj e =
 one-place (x ∷ xs) once (suc i) zero hi hj e =
     absurd (omega (arith, once x, same-bit x, count-at (eqb x) xs i (omega arith), ap bit (eq-eqb x (getD xs i 0) (sym e))))
 one-place (x ∷ xs) once (suc i) (suc j) hi hj e = ap suc (one-place xs (λ y. omega (arith, once y)) i j (omega arith) (omega arith) e)
-
--- by whether p is the first node
-at-place : (p x : ℕ) (xs : List ℕ) (b : Bool) → eqb p x ≡ b → (place p xs < length xs → getD xs (place p xs) 0 ≡ p) → place p (x ∷ xs) < suc (length xs) → getD (x ∷ xs) (place p (x ∷ xs)) 0 ≡ p
-unfolding place
-at-place p x xs true e r = rw (e, place) (λ h. sym (eqb-true p x e))
-at-place p x xs false e r = rw (e, place) (λ h. r (omega arith))
-
-pub place-at : (p : ℕ) (xs : List ℕ) → place p xs < length xs → getD xs (place p xs) 0 ≡ p
-place-at p [] h = absurd (not-suc-le-zero h)
-place-at p (x ∷ xs) h = at-place p x xs (eqb p x) refl (place-at p xs) h
-
-found : (p : ℕ) (xs : List ℕ) → 1 ≤ occ p xs → place p xs < length xs
-unfolding place
-found p [] h = absurd (not-suc-le-zero h)
-found p (x ∷ xs) h = go (eqb p x) refl (found p xs)
-  where
-    go : (b : Bool) → eqb p x ≡ b → (1 ≤ occ p xs → place p xs < length xs) → place p (x ∷ xs) < suc (length xs)
-    go true e r = rw (e, place) (omega arith)
-    go false e r = rw (e, place) (omega (arith, r (omega (arith, ap bit e))))
-
-pub place-is : (xs : List ℕ) → ((y : ℕ) → occ y xs ≤ 1) → (i : ℕ) → i < length xs → place (getD xs i 0) xs ≡ i
-place-is xs once i h =
-    let p = getD xs i 0 in
-    let f : place p xs < length xs = found p xs (occ-at xs i h) in
-    one-place xs once (place p xs) i f h (place-at p xs f)
 
 -- ---- what is known of a node
 

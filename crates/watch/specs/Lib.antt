@@ -4,10 +4,9 @@ pub mod Follow
 pub mod View
 pub mod Cells
 pub mod Laws
-pub mod Links
+pub mod Threads
 pub mod Stores
 pub mod Meaning
 pub mod Uses
 pub mod Walk
-pub mod Cursors
 pub mod Steps

@@ -12,8 +12,7 @@ use borrow.Author.Tests.{lt-leb}
 use Rattle.region.specs.Table.{sum-get, sum-set}
 use Rattle.model.specs.State.{Watch}
 use Rattle.model.specs.Store.{push-watch}
-use Rattle.watch.specs.Count.{bit, occ, over, same-bit, occ-at}
-use Rattle.watch.specs.Follow.{not-here}
+use Rattle.watch.specs.Count.{bit, occ, over, same-bit, occ-at, not-here}
 use Rattle.watch.specs.View.{Watches, list-of, without, Apart, Under, Free, appended, unlinked, moved, blocked, emptied}
 use Rattle.watch.specs.Laws.{fresh, free-without}
 

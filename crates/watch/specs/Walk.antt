@@ -1,191 +1,109 @@
 -- A walk through a list: the nodes passed that stayed, and those that are left.
-use Prim.Native.Nat.{ℕ, zero, suc, _+_, _-_, _≤_, _<_}
+use Prim.Native.Nat.{ℕ, suc, _+_, _*_, _≤_, _<_}
 use native.Mathlib.Omega.{arith}
-use mathlib.Core.Path.{_≡_, refl, sym, ap, _∙_, subst₂}
-use mathlib.Core.List.{List, [], _∷_, _++_, append-assoc}
-use lib.ListN.{length, getD, take, drop, length-append, length-drop, take-append-drop, List·getD-append}
-use lib.Seq.{take-at, drop-at, take-suc, drop-cons, getD-at, getD-drop, length-take-le}
-use Rattle.watch.specs.Count.{occ}
-use Rattle.watch.specs.View.{without, place, spot, list-of, Watches, moved, Holds, view}
-use Rattle.watch.specs.Laws.{place-is}
+use native.Mathlib.Decide.{ℕ-discrete}
+use mathlib.Core.Path.{_≡_, refl, sym, ap, _∙_}
+use mathlib.Core.Logic.{_≢_}
+use mathlib.Core.Bool.{not}
+use mathlib.Core.List.{List, [], _∷_, _++_}
+use lib.ListN.{length, getD, set, take, drop, length-append}
+use lib.Seq.{take-at, drop-at, length-take-le, append-snoc, getD-set-same, getD-set-other}
+use lib.Dec.{eqb, ltb}
+use borrow.Author.Tests.{eq-eqb, ne-eqb, lt-ltb, le-ltb}
+use Rattle.watch.specs.View.{Watches, list-of, without, names, records, moved, Rep, Holds, view, cells}
+use Rattle.watch.specs.Laws.{length-without, without-before, list-small}
+use Rattle.watch.specs.Threads.{one-name}
+use Rattle.watch.specs.Stores.{lists-length, thread-of, name-of, rep-chains}
 use Rattle.watch.specs.declared.Lists.{Lists}
-use Rattle.watch.specs.declared.Prev.{Prev}
-use Rattle.watch.specs.declared.Prev.the-variants.{Start, After}
 use Rattle.watch.specs.declared.Cursor.{Cursor}
 
--- the node before a cursor, from its field
-pub node-before : ℕ → Prev
-node-before zero = Start
-node-before (suc y) = After y
+-- a cursor in list l, whose nodes are xs: it has the link to the node at its place, and the next one
+pub record Stands (d : Lists) (l : ℕ) (c : Cursor) (xs : List ℕ) : Type 0 where
+  pub inside : c .passed ≤ length xs
+  pub at : c .at ≡ getD (names (d .nodes) l xs) (c .passed) 0
+  pub after : c .after ≡ getD (names (d .nodes) l xs) (suc (c .passed)) 0
 
-pub node-before-start : node-before 0 ≡ Start
-unfolding node-before
-node-before-start = refl
-
-pub node-before-after : (x : ℕ) → node-before (x + 1) ≡ After x
-unfolding node-before
-node-before-after x = let e : x + 1 ≡ suc x = omega arith in rw e
-
-pub node-before-more : (p : ℕ) → 0 < p → node-before p ≡ After (p - 1)
-unfolding node-before
-node-before-more zero n = absurd (omega arith)
-node-before-more (suc y) n = ap After (omega arith)
-
--- the last of the nodes that stayed
-abbrev pub behind : List ℕ → Prev
-behind [] = Start
-behind (y ∷ ys) = After (getD (y ∷ ys) (length ys) 0)
-
--- a cursor between the nodes kept and the rest
-pub record At (c : Cursor) (kept rest : List ℕ) : Type 0 where
-  pub prev : node-before (c .prev) ≡ behind kept
-  pub cur : 0 < length rest → c .cur ≡ getD rest 0 0
-  pub left : c .left ≡ length rest
-
-behind-snoc : (kept : List ℕ) (x : ℕ) → behind (kept ++ (x ∷ [])) ≡ After x
-behind-snoc [] x = refl
-behind-snoc (y ∷ ys) x = ap After (getD-at (y ∷ ys) x [] 0 (length (ys ++ (x ∷ []))) (sym (length-append ys (x ∷ []) ∙ omega arith)))
+-- the node at the cursor c has gone to list m with the blocker b: the cursor is at the next
+pub record Gone (d : Lists) (w′ : List ℕ) (l m b : ℕ) (s : Watches) (c : Cursor) : Type 0 where
+  pub holds : Holds d w′ (moved l (c .passed) m b s)
+  pub stands : Stands d l c (list-of (view d w′) l)
 
 -- where a walk starts
-pub at-start : (c : Cursor) (xs : List ℕ) → node-before (c .prev) ≡ Start → (0 < length xs → c .cur ≡ getD xs 0 0) → c .left ≡ length xs → At c [] xs
-at-start c xs p q r = record { prev = p; cur = q; left = r }
+pub stands-first : (d : Lists) (l : ℕ) (xs : List ℕ) (c : Cursor) → c .at ≡ d .nodes + 2 * l → c .after ≡ d .nodes + 2 * l + 1 → c .passed ≡ 0 → Stands d l c xs
+stands-first d l xs c p q r = record { inside = omega arith; at = rw r p; after = rw r q }
 
--- the node stays
-pub at-stays : (c r : Cursor) (kept : List ℕ) (x : ℕ) (rest : List ℕ) → At c kept (x ∷ rest) → node-before (r .prev) ≡ After (c .cur) → (0 < length rest → r .cur ≡ getD rest 0 0) → r .left ≡ c .left - 1
-    → At r (kept ++ (x ∷ [])) rest
-at-stays c r kept x rest a p q n =
-    record { prev = p ∙ ap After (a .cur (omega arith)) ∙ sym (behind-snoc kept x); cur = q; left = omega (arith, a .left) }
+module _ (d : Lists) (l : ℕ) (c : Cursor) (xs : List ℕ) (k : Stands d l c xs) (h : c .passed < length xs) where
+  -- the node stays
+  pub stands-stays : (r : Cursor) → r .at ≡ c .after → r .after ≡ getD xs (c .passed) 0 → r .passed ≡ c .passed + 1 → Stands d l r xs
+  stands-stays r p q n =
+      let e : r .passed ≡ suc (c .passed) = omega arith in
+      record { inside = omega arith; at = rw e (p ∙ k .after); after = rw e q }
 
--- the node goes
-pub at-goes : (c r : Cursor) (kept : List ℕ) (x : ℕ) (rest : List ℕ) → At c kept (x ∷ rest) → node-before (r .prev) ≡ node-before (c .prev) → (0 < length rest → r .cur ≡ getD rest 0 0) → r .left ≡ c .left - 1
-    → At r kept rest
-at-goes c r kept x rest a p q n = record { prev = p ∙ a .prev; cur = q; left = omega (arith, a .left) }
+  -- the node goes
+  pub stands-goes : Stands d l c (without (c .passed) xs)
+  stands-goes =
+      let i = c .passed in
+      record {
+        inside = omega (arith, length-without i xs h);
+        at = k .at ∙ sym (without-before (suc (suc i)) (names (d .nodes) l xs) i (omega arith) (omega arith));
+        after = k .after ∙ sym (without-before (suc (suc i)) (names (d .nodes) l xs) (suc i) (omega arith) (omega arith));
+      }
 
--- the place that `unlink` is to find
-pub at-spot : (c : Cursor) (kept rest : List ℕ) → ((y : ℕ) → occ y (kept ++ rest) ≤ 1) → At c kept rest → spot (node-before (c .prev)) (kept ++ rest) ≡ length kept
-at-spot c [] rest once a = rw (a .prev)
-at-spot c (y ∷ ys) rest once a =
-    let xs = (y ∷ ys) ++ rest in
-    let here : getD xs (length ys) 0 ≡ getD (y ∷ ys) (length ys) 0 = List·getD-append (y ∷ ys) rest 0 (length ys) (omega arith) in
-    rw (a .prev, ← here) (ap suc (place-is xs once (length ys) (omega (arith, length-append (y ∷ ys) rest))))
+-- list l after a move out of it
+pub moved-list : (l i m b : ℕ) (s : Watches) → l ≢ m → l < length (s .lists) → list-of (moved l i m b s) l ≡ without i (list-of s l)
+unfolding moved
+moved-list l i m b s n h =
+    getD-set-other (set (s .lists) l (without i (list-of s l))) m l _ [] n ∙ getD-set-same (s .lists) l (without i (list-of s l)) [] h
 
--- ---- the two parts by how many are left
+-- ---- in the slice
 
-module _ {A : Type 0} where
-  abbrev pub kept-of : ℕ → List A → List A
-  kept-of n xs = take (length xs - n) xs
+module _ (d : Lists) (w : List ℕ) (k : Rep d w) (l : ℕ) (hl : l < d .slots) (c : Cursor) (a : Stands d l c (list-of (view d w) l)) where
+  pub at-low : c .at < records d
+  at-low = rw (a .at) (name-of d w k l (c .passed) hl (omega (arith, a .inside)))
 
-  abbrev pub rest-of : ℕ → List A → List A
-  rest-of n xs = drop (length xs - n) xs
+  pub after-low : c .after < records d
+  after-low = rw (a .after) (name-of d w k l (suc (c .passed)) hl (omega (arith, a .inside)))
 
-  pub parts-of : (n : ℕ) (xs : List A) → kept-of n xs ++ rest-of n xs ≡ xs
-  parts-of n xs = take-append-drop (length xs - n) xs
+  pub passed-low : c .passed ≤ d .nodes
+  passed-low = omega (arith, a .inside, list-small (d .nodes) (view d w .lists) (rep-chains d w k) l (rw (lists-length d w) hl))
 
-  pub kept-all : (xs : List A) → kept-of (length xs) xs ≡ []
-  kept-all xs = let z : length xs - length xs ≡ 0 = omega arith in rw z
+  -- the cursor is at the end where its link is the first behind it
+  pub at-end : (t : ℕ) → t ≡ getD (cells d w .notes) (d .nodes + 2 * l) 0 → not (eqb (c .at) t) ≡ ltb (c .passed) (length (list-of (view d w) l))
+  at-end t e = go (ℕ-discrete (c .passed) (length (list-of (view d w) l)))
+    where
+      go : Dec (c .passed ≡ length (list-of (view d w) l)) → not (eqb (c .at) t) ≡ ltb (c .passed) (length (list-of (view d w) l))
+      go (yes q) =
+          let same : c .at ≡ t = a .at ∙ ap (λ i. getD (names (d .nodes) l (list-of (view d w) l)) i 0) q ∙ sym (thread-of d w k l hl .end) ∙ sym e in
+          ap not (eq-eqb (c .at) t same) ∙ sym (le-ltb (c .passed) (length (list-of (view d w) l)) (omega arith))
+      go (no q) =
+          let other : c .at ≢ t = λ p. q (one-name d (view d w .lists) (lists-length d w) (rep-chains d w k) l (c .passed) (length (list-of (view d w) l)) hl (omega (arith, a .inside)) (omega arith) (sym (a .at) ∙ p ∙ e ∙ thread-of d w k l hl .end)) in
+          ap not (ne-eqb (c .at) t other) ∙ sym (lt-ltb (c .passed) (length (list-of (view d w) l)) (omega (arith, a .inside)))
 
-  pub rest-all : (xs : List A) → rest-of (length xs) xs ≡ xs
-  rest-all xs = let z : length xs - length xs ≡ 0 = omega arith in rw z
+  module _ (h : c .passed < length (list-of (view d w) l)) where
+    pub cursor-node : getD (cells d w .links) (c .at) 0 ≡ getD (list-of (view d w) l) (c .passed) 0
+    cursor-node = ap (λ x. getD (cells d w .links) x 0) (a .at) ∙ thread-of d w k l hl .links (c .passed) h
 
-  pub kept-length : (n : ℕ) (xs : List A) → length (kept-of n xs) ≡ length xs - n
-  kept-length n xs = length-take-le (length xs - n) xs (omega arith)
+    pub cursor-gone : (m b : ℕ) (w′ : List ℕ) → (l ≡ m → ⊥) → Holds d w′ (moved l (c .passed) m b (view d w)) → Gone d w′ l m b (view d w) c
+    cursor-gone m b w′ ne g =
+        record { holds = g; stands = rw (g .view, moved-list l (c .passed) m b (view d w) ne (rw (lists-length d w) hl)) (stands-goes d l c (list-of (view d w) l) a h) }
 
-  pub rest-length : (n : ℕ) (xs : List A) → n ≤ length xs → length (rest-of n xs) ≡ n
-  rest-length n xs h = length-drop (length xs - n) xs ∙ omega arith
+-- ---- the two parts of a list: what has stayed, and what is left
 
-  -- the parts of kept ++ rest
-  pub kept-append : (kept rest : List A) → kept-of (length rest) (kept ++ rest) ≡ kept
-  kept-append kept rest = take-at kept rest (length (kept ++ rest) - length rest) (omega (arith, length-append kept rest))
+module _ {A : Type 0} (i : ℕ) (xs : List A) (h : i < length xs) where
+  kept-length : length (take i xs) ≡ i
+  kept-length = length-take-le i xs (omega arith)
 
-  pub rest-append : (kept rest : List A) → rest-of (length rest) (kept ++ rest) ≡ rest
-  rest-append kept rest = drop-at kept rest (length (kept ++ rest) - length rest) (omega (arith, length-append kept rest))
+  pub kept-goes : take i (without i xs) ≡ take i xs
+  kept-goes = take-at (take i xs) (drop (suc i) xs) i kept-length
 
-  -- one step on: the element at the place, and the parts after it goes, or stays as v
-  module _ (n : ℕ) (xs : List A) (h : n < length xs) where
-    next-place : length xs - n ≡ suc (length xs - suc n)
-    next-place = omega arith
+  pub rest-goes : drop i (without i xs) ≡ drop (suc i) xs
+  rest-goes = drop-at (take i xs) (drop (suc i) xs) i kept-length
 
-    pub rest-cons : (d : A) → rest-of (suc n) xs ≡ getD xs (length xs - suc n) d ∷ rest-of n xs
-    rest-cons d = rw next-place (drop-cons xs (length xs - suc n) d (omega arith))
+  one-more : (v : A) → length (take i xs ++ (v ∷ [])) ≡ suc i
+  one-more v = length-append (take i xs) (v ∷ []) ∙ omega (arith, kept-length)
 
-    pub kept-snoc : (d : A) → kept-of n xs ≡ kept-of (suc n) xs ++ (getD xs (length xs - suc n) d ∷ [])
-    kept-snoc d = rw next-place (take-suc xs (length xs - suc n) d (omega arith))
+  pub kept-stays : (v : A) → take (suc i) (take i xs ++ (v ∷ drop (suc i) xs)) ≡ take i xs ++ (v ∷ [])
+  kept-stays v = ap (take (suc i)) (sym (append-snoc (take i xs) v (drop (suc i) xs))) ∙ take-at (take i xs ++ (v ∷ [])) (drop (suc i) xs) (suc i) (one-more v)
 
-    pub without-is : without (length xs - suc n) xs ≡ kept-of (suc n) xs ++ rest-of n xs
-    without-is = rw (← next-place)
-
-    size : length (rest-of n xs) ≡ n
-    size = rest-length n xs (omega arith)
-
-    pub kept-goes : kept-of n (kept-of (suc n) xs ++ rest-of n xs) ≡ kept-of (suc n) xs
-    kept-goes = ap (λ k. kept-of k (kept-of (suc n) xs ++ rest-of n xs)) (sym size) ∙ kept-append (kept-of (suc n) xs) (rest-of n xs)
-
-    pub rest-goes : rest-of n (kept-of (suc n) xs ++ rest-of n xs) ≡ rest-of n xs
-    rest-goes = ap (λ k. rest-of k (kept-of (suc n) xs ++ rest-of n xs)) (sym size) ∙ rest-append (kept-of (suc n) xs) (rest-of n xs)
-
-    pub kept-stays : (v : A) → kept-of n (kept-of (suc n) xs ++ (v ∷ rest-of n xs)) ≡ kept-of (suc n) xs ++ (v ∷ [])
-    kept-stays v =
-        let ys = kept-of (suc n) xs ++ (v ∷ []) in
-        ap (kept-of n) (sym (append-assoc (kept-of (suc n) xs) (v ∷ []) (rest-of n xs))) ∙ ap (λ k. kept-of k (ys ++ rest-of n xs)) (sym size) ∙ kept-append ys (rest-of n xs)
-
-    pub rest-stays : (v : A) → rest-of n (kept-of (suc n) xs ++ (v ∷ rest-of n xs)) ≡ rest-of n xs
-    rest-stays v =
-        let ys = kept-of (suc n) xs ++ (v ∷ []) in
-        ap (rest-of n) (sym (append-assoc (kept-of (suc n) xs) (v ∷ []) (rest-of n xs))) ∙ ap (λ k. rest-of k (ys ++ rest-of n xs)) (sym size) ∙ rest-append ys (rest-of n xs)
-
--- ---- a cursor in a list
-
-pub record Stands (c : Cursor) (xs : List ℕ) : Type 0 where
-  pub inside : c .left ≤ length xs
-  pub at : At c (kept-of (c .left) xs) (rest-of (c .left) xs)
-
-pub stands-at : (c : Cursor) (kept rest : List ℕ) → At c kept rest → Stands c (kept ++ rest)
-stands-at c kept rest a =
-    record {
-      inside = omega (arith, a .left, length-append kept rest);
-      at =
-          subst₂ (At c)
-          (sym (ap (λ n. kept-of n (kept ++ rest)) (a .left) ∙ kept-append kept rest))
-          (sym (ap (λ n. rest-of n (kept ++ rest)) (a .left) ∙ rest-append kept rest))
-          a;
-    }
-
-module _ (c : Cursor) (xs : List ℕ) (k : Stands c xs) where
-  pub stands-spot : ((y : ℕ) → occ y xs ≤ 1) → spot (node-before (c .prev)) xs ≡ length xs - c .left
-  stands-spot once =
-      let same = parts-of (c .left) xs in
-      let e = at-spot c (kept-of (c .left) xs) (rest-of (c .left) xs) (λ y. rw same (once y)) (k .at) in
-      ap (spot (node-before (c .prev))) (sym same) ∙ e ∙ kept-length (c .left) xs
-
-  pub stands-cur : 0 < c .left → c .cur ≡ getD xs (length xs - c .left) 0
-  stands-cur p =
-      k .at .cur (rw (rest-length (c .left) xs (k .inside)) p) ∙ getD-drop (length xs - c .left) xs 0 0 ∙ ap (λ i. getD xs i 0) (omega arith)
-
-  -- a step: the next node is y, with n left from there
-  module _ (r : Cursor) (n : ℕ) (e : c .left ≡ suc n) (er : r .left ≡ n) (next : suc (length xs - c .left) < length xs → r .cur ≡ getD xs (suc (length xs - c .left)) 0) where
-    low : n < length xs
-    low = omega (arith, k .inside)
-
-    split : At c (kept-of (suc n) xs) (getD xs (length xs - suc n) 0 ∷ rest-of n xs)
-    split = subst₂ (At c) (ap (λ m. kept-of m xs) e) (ap (λ m. rest-of m xs) e ∙ rest-cons n xs low 0) (k .at)
-
-    first-left : 0 < length (rest-of n xs) → r .cur ≡ getD (rest-of n xs) 0 0
-    first-left p =
-        next (omega (arith, rest-length n xs (omega (arith, low)), low))
-        ∙ sym (getD-drop (length xs - n) xs 0 0 ∙ ap (λ i. getD xs i 0) (omega (arith, low)))
-
-    pub stands-stays : node-before (r .prev) ≡ After (c .cur) → Stands r xs
-    stands-stays p =
-        let a = at-stays c r (kept-of (suc n) xs) (getD xs (length xs - suc n) 0) (rest-of n xs) split p first-left (omega arith) in
-        record { inside = omega (arith, low); at = subst₂ (At r) (sym (ap (λ m. kept-of m xs) er ∙ kept-snoc n xs low 0)) (ap (λ m. rest-of m xs) (sym er)) a }
-
-    pub stands-goes : node-before (r .prev) ≡ node-before (c .prev) → Stands r (without (length xs - c .left) xs)
-    stands-goes p =
-        let a = at-goes c r (kept-of (suc n) xs) (getD xs (length xs - suc n) 0) (rest-of n xs) split p first-left (omega arith) in
-        rw (e, without-is n xs low) (stands-at r (kept-of (suc n) xs) (rest-of n xs) a)
-
--- the node at the cursor c has gone to list m with the blocker b, and the cursor r is at the next
-pub record Gone (d : Lists) (w′ : List ℕ) (l m b : ℕ) (s : Watches) (c r : Cursor) : Type 0 where
-  pub holds : Holds d w′ (moved l (length (list-of s l) - c .left) m b s)
-  pub stands : Stands r (list-of (view d w′) l)
-  pub left : suc (r .left) ≡ c .left
+  pub rest-stays : (v : A) → drop (suc i) (take i xs ++ (v ∷ drop (suc i) xs)) ≡ drop (suc i) xs
+  rest-stays v = ap (drop (suc i)) (sym (append-snoc (take i xs) v (drop (suc i) xs))) ∙ drop-at (take i xs ++ (v ∷ [])) (drop (suc i) xs) (suc i) (one-more v)

@@ -1,12 +1,16 @@
-// Watch lists as linked nodes in a lent slice. A literal has its list's first node, last node and length; a node has its blocker and the next node,
-// in two adjacent cells. Clause c has the nodes 2c and 2c + 1.
+// Watch lists as linked nodes in a lent slice. A node is a record of two cells, its link and its blocker; clause c has the nodes 2c and 2c + 1. Behind the nodes a
+// literal has two records, whose first cells are links too. The links of a list are, in order, those of the literal's two records and of the list's nodes: the link at
+// place i names the node at place i. So a node's link names the node two places on, and a walk has two links at hand, and need not wait for the next node. The
+// literal's two records have as second cells the two links behind the list's end, which name no node.
 ghost use mathlib.Core.Path.{_≡_};
-ghost use Prim.Native.Nat.{suc, _+_, _*_, _<_};
+ghost use Prim.Native.Nat.{_+_, _*_, _≤_, _<_};
+ghost use Rattle.model.specs.Limits.{max-variables, max-clauses};
 ghost use Rattle.model.specs.Lit.{neg};
 ghost use lib.ListN.{length, getD};
-ghost use Rattle.watch.specs.View.{Room, Laid, cells, with-head, with-tail, with-count, with-next, with-blocker};
-ghost use Rattle.watch.specs.View.{Rep, Holds, view, list-of, place, spot, Next, Free, Under, appended, attached, unlinked, moved, blocked, emptied};
-ghost use Rattle.watch.specs.Walk.{node-before, Stands, Gone};
+ghost use lib.Dec.{ltb};
+ghost use Rattle.watch.specs.View.{Room, Laid, records, cells, with-link, with-note};
+ghost use Rattle.watch.specs.View.{Rep, Holds, view, list-of, Free, Under, appended, attached, unlinked, blocked, emptied};
+ghost use Rattle.watch.specs.Walk.{Stands, Gone};
 use clause::Lit;
 
 // How many lists, two for each variable, and how many nodes, two for each clause that can be stored.
@@ -15,136 +19,56 @@ pub struct Lists {
     pub nodes: usize,
 }
 
-// The node before another, where there is one.
-pub enum Prev {
-    Start,
-    After(usize),
-}
-
-// A place on a walk through a list: its node, the node before it plus one, or 0 where there is none, and how many nodes are left from here on.
-// The node before is a number and not a `Prev`: the walk copies it at every node, and an enum would be copied with its padding.
+// A place on a walk through a list: the record whose link names the node there, the record of the next link, and how many nodes have been passed that stayed.
+// No step reads that number; it says in the contracts where the walk is.
 pub struct Cursor {
-    pub prev: usize,
-    pub cur: usize,
-    pub left: usize,
+    pub at: usize,
+    pub after: usize,
+    pub passed: usize,
 }
 
-fn head_at(d: Lists, s: &[u32], l: usize) -> u32
+// The link of a record.
+fn link(d: Lists, s: &[u32], x: usize) -> u32
     requires { ⌜ Room d (length (now s)) ⌝ }
-    requires { ⌜ l < d .slots ⌝ }
-    ensures { λ r. ⌜ r ≡ getD (cells d (now (s .entry)) .heads) l 0 ⌝ }
+    requires { ⌜ x < records d ⌝ }
+    ensures { λ r. ⌜ r ≡ getD (cells d (now (s .entry)) .links) x 0 ⌝ }
 {
-    s[l]
+    s[2 * x]
 }
 
-fn tail_at(d: Lists, s: &[u32], l: usize) -> u32
+// The second cell of a record: a node's blocker, a literal's end.
+fn note(d: Lists, s: &[u32], x: usize) -> u32
     requires { ⌜ Room d (length (now s)) ⌝ }
-    requires { ⌜ l < d .slots ⌝ }
-    ensures { λ r. ⌜ r ≡ getD (cells d (now (s .entry)) .tails) l 0 ⌝ }
+    requires { ⌜ x < records d ⌝ }
+    ensures { λ r. ⌜ r ≡ getD (cells d (now (s .entry)) .notes) x 0 ⌝ }
 {
-    let n = d.slots;
-    s[n + l]
+    s[2 * x + 1]
 }
 
-fn count_at(d: Lists, s: &[u32], l: usize) -> u32
+fn put_link(d: Lists, s: &mut [u32], x: usize, v: u32)
     requires { ⌜ Room d (length (now s)) ⌝ }
-    requires { ⌜ l < d .slots ⌝ }
-    ensures { λ r. ⌜ r ≡ getD (cells d (now (s .entry)) .counts) l 0 ⌝ }
+    requires { ⌜ x < records d ⌝ }
+    ensures { λ _. ⌜ Laid d (now (s .exit)) (with-link x v (cells d (now (s .entry)))) ⌝ }
 {
-    let n = d.slots;
-    s[2 * n + l]
+    s[2 * x] = v;
 }
 
-fn next_at(d: Lists, s: &[u32], x: usize) -> u32
+fn put_note(d: Lists, s: &mut [u32], x: usize, v: u32)
     requires { ⌜ Room d (length (now s)) ⌝ }
-    requires { ⌜ x < d .nodes ⌝ }
-    ensures { λ r. ⌜ r ≡ getD (cells d (now (s .entry)) .nexts) x 0 ⌝ }
+    requires { ⌜ x < records d ⌝ }
+    ensures { λ _. ⌜ Laid d (now (s .exit)) (with-note x v (cells d (now (s .entry)))) ⌝ }
 {
-    let n = d.slots;
-    s[3 * n + 2 * x + 1]
+    s[2 * x + 1] = v;
 }
 
-fn blocker_at(d: Lists, s: &[u32], x: usize) -> u32
-    requires { ⌜ Room d (length (now s)) ⌝ }
-    requires { ⌜ x < d .nodes ⌝ }
-    ensures { λ r. ⌜ r ≡ getD (cells d (now (s .entry)) .blockers) x 0 ⌝ }
-{
-    let n = d.slots;
-    s[3 * n + 2 * x]
-}
-
-fn put_head(d: Lists, s: &mut [u32], l: usize, v: u32)
-    requires { ⌜ Room d (length (now s)) ⌝ }
-    requires { ⌜ l < d .slots ⌝ }
-    ensures { λ _. ⌜ Laid d (now (s .exit)) (with-head l v (cells d (now (s .entry)))) ⌝ }
-{
-    s[l] = v;
-}
-
-fn put_tail(d: Lists, s: &mut [u32], l: usize, v: u32)
-    requires { ⌜ Room d (length (now s)) ⌝ }
-    requires { ⌜ l < d .slots ⌝ }
-    ensures { λ _. ⌜ Laid d (now (s .exit)) (with-tail l v (cells d (now (s .entry)))) ⌝ }
-{
-    let n = d.slots;
-    s[n + l] = v;
-}
-
-fn put_count(d: Lists, s: &mut [u32], l: usize, v: u32)
-    requires { ⌜ Room d (length (now s)) ⌝ }
-    requires { ⌜ l < d .slots ⌝ }
-    ensures { λ _. ⌜ Laid d (now (s .exit)) (with-count l v (cells d (now (s .entry)))) ⌝ }
-{
-    let n = d.slots;
-    s[2 * n + l] = v;
-}
-
-fn put_next(d: Lists, s: &mut [u32], x: usize, v: u32)
-    requires { ⌜ Room d (length (now s)) ⌝ }
-    requires { ⌜ x < d .nodes ⌝ }
-    ensures { λ _. ⌜ Laid d (now (s .exit)) (with-next x v (cells d (now (s .entry)))) ⌝ }
-{
-    let n = d.slots;
-    s[3 * n + 2 * x + 1] = v;
-}
-
-fn put_blocker(d: Lists, s: &mut [u32], x: usize, v: u32)
-    requires { ⌜ Room d (length (now s)) ⌝ }
-    requires { ⌜ x < d .nodes ⌝ }
-    ensures { λ _. ⌜ Laid d (now (s .exit)) (with-blocker x v (cells d (now (s .entry)))) ⌝ }
-{
-    let n = d.slots;
-    s[3 * n + 2 * x] = v;
-}
-
-// How many nodes the list of l has.
-pub fn count(d: Lists, s: &[u32], l: Lit) -> usize
-    requires { ⌜ Rep d (now s) ⌝ }
+// The first of the two records of l.
+fn home(d: Lists, l: Lit) -> usize
+    requires { ⌜ (d .slots ≤ 2 * max-variables) × (d .nodes ≤ 2 * max-clauses) ⌝ }
     requires { ⌜ l .0 < d .slots ⌝ }
-    ensures { λ r. ⌜ r ≡ length (list-of (view d (now (s .entry))) (l .0)) ⌝ }
+    ensures { λ r. ⌜ r ≡ d .nodes + 2 * l .0 ⌝ }
 {
     let p = l.0 as usize;
-    count_at(d, s, p) as usize
-}
-
-// The first node of a list that has one.
-pub fn first(d: Lists, s: &[u32], l: Lit) -> usize
-    requires { ⌜ Rep d (now s) ⌝ }
-    requires { ⌜ l .0 < d .slots ⌝ }
-    requires { ⌜ 0 < length (list-of (view d (now s)) (l .0)) ⌝ }
-    ensures { λ r. ⌜ (r ≡ getD (list-of (view d (now (s .entry))) (l .0)) 0 0) × (r < d .nodes) ⌝ }
-{
-    let p = l.0 as usize;
-    head_at(d, s, p) as usize
-}
-
-// The node after x, where x is in a list and not its last.
-pub fn next(d: Lists, s: &[u32], x: usize) -> usize
-    requires { ⌜ Rep d (now s) ⌝ }
-    requires { ⌜ x < d .nodes ⌝ }
-    ensures { λ r. ⌜ Next (view d (now (s .entry))) x r ⌝ }
-{
-    next_at(d, s, x) as usize
+    d.nodes + 2 * p
 }
 
 pub fn blocker(d: Lists, s: &[u32], x: usize) -> Lit
@@ -152,7 +76,7 @@ pub fn blocker(d: Lists, s: &[u32], x: usize) -> Lit
     requires { ⌜ x < d .nodes ⌝ }
     ensures { λ r. ⌜ r .0 ≡ getD (view d (now (s .entry)) .blockers) x 0 ⌝ }
 {
-    Lit(blocker_at(d, s, x))
+    Lit(note(d, s, x))
 }
 
 pub fn set_blocker(d: Lists, s: &mut [u32], x: usize, b: Lit)
@@ -160,7 +84,7 @@ pub fn set_blocker(d: Lists, s: &mut [u32], x: usize, b: Lit)
     requires { ⌜ x < d .nodes ⌝ }
     ensures { λ _. ⌜ Holds d (now (s .exit)) (blocked x (b .0) (view d (now (s .entry)))) ⌝ }
 {
-    put_blocker(d, s, x, b.0);
+    put_note(d, s, x, b.0);
 }
 
 // A node that is in no list goes to the end of the list of l, with the blocker b.
@@ -170,18 +94,14 @@ pub fn append(d: Lists, s: &mut [u32], l: Lit, x: usize, b: Lit)
     requires { ⌜ Free x (view d (now s) .lists) ⌝ }
     ensures { λ _. ⌜ Holds d (now (s .exit)) (appended (l .0) x (b .0) (view d (now (s .entry)))) ⌝ }
 {
-    let p = l.0 as usize;
+    let e = home(d, l);
     let y = x as u32;
-    let k = count_at(d, s, p);
-    let t = tail_at(d, s, p);
-    put_tail(d, s, p, y);
-    put_count(d, s, p, k + 1);
-    put_blocker(d, s, x, b.0);
-    if k == 0 {
-        put_head(d, s, p, y);
-    } else {
-        put_next(d, s, t as usize, y);
-    }
+    let t = note(d, s, e);
+    let u = note(d, s, e + 1);
+    put_note(d, s, x, b.0);
+    put_note(d, s, e, u);
+    put_note(d, s, e + 1, y);
+    put_link(d, s, t as usize, y);
 }
 
 // The first two literals p and q of a new clause are watched, each with the other as blocker.
@@ -197,64 +117,32 @@ pub fn attach(d: Lists, s: &mut [u32], c: usize, p: Lit, q: Lit)
     append(d, s, m, 2 * c + 1, p);
 }
 
-// The first node of a list leaves it.
-pub fn unlink_first(d: Lists, s: &mut [u32], l: Lit)
+// The node x at the cursor leaves the list of l. Where it is the last, the list ends at the cursor; else the cursor's two links go past it, and where it is
+// the last but one, the second of these is the first behind the end.
+fn unlink(d: Lists, s: &mut [u32], l: Lit, c: Cursor, x: usize)
     requires { ⌜ Rep d (now s) ⌝ }
     requires { ⌜ l .0 < d .slots ⌝ }
-    requires { ⌜ 0 < length (list-of (view d (now s)) (l .0)) ⌝ }
-    ensures { λ _. ⌜ Holds d (now (s .exit)) (unlinked (l .0) 0 (view d (now (s .entry)))) ⌝ }
+    requires { ⌜ Stands d (l .0) c (list-of (view d (now s)) (l .0)) × (c .passed < length (list-of (view d (now s)) (l .0))) ⌝ }
+    requires { ⌜ x ≡ getD (list-of (view d (now s)) (l .0)) (c .passed) 0 ⌝ }
+    ensures { λ _. ⌜ Holds d (now (s .exit)) (unlinked (l .0) (c .passed) (view d (now (s .entry)))) ⌝ }
 {
-    let p = l.0 as usize;
-    let x = first(d, s, l);
-    let k = count_at(d, s, p);
-    let y = next_at(d, s, x);
-    put_head(d, s, p, y);
-    put_count(d, s, p, k - 1);
-}
-
-// The node after `prev` leaves its list.
-pub fn unlink_after(d: Lists, s: &mut [u32], l: Lit, prev: usize)
-    requires { ⌜ Rep d (now s) ⌝ }
-    requires { ⌜ l .0 < d .slots ⌝ }
-    requires { ⌜ suc (place prev (list-of (view d (now s)) (l .0))) < length (list-of (view d (now s)) (l .0)) ⌝ }
-    ensures { λ _. ⌜ Holds d (now (s .exit)) (unlinked (l .0) (suc (place prev (list-of (view d (now (s .entry))) (l .0)))) (view d (now (s .entry)))) ⌝ }
-{
-    let p = l.0 as usize;
-    let q = prev as u32;
-    let x = next_at(d, s, prev);
-    let n = count_at(d, s, p);
-    let t = tail_at(d, s, p);
-    let y = next_at(d, s, x as usize);
-    put_next(d, s, prev, y);
-    put_count(d, s, p, n - 1);
+    let e = home(d, l);
+    let a = c.at;
+    let b = c.after;
+    let t = note(d, s, e) as usize;
+    let u = note(d, s, e + 1) as usize;
+    if u == x {
+        put_note(d, s, e, a as u32);
+        put_note(d, s, e + 1, b as u32);
+        return;
+    }
+    let y = link(d, s, b);
+    let z = link(d, s, x);
+    put_link(d, s, a, y);
+    put_link(d, s, b, z);
     if t == x {
-        put_tail(d, s, p, q);
+        put_note(d, s, e, b as u32);
     }
-}
-
-// The node at a place of a list leaves it.
-pub fn unlink(d: Lists, s: &mut [u32], l: Lit, prev: Prev)
-    requires { ⌜ Rep d (now s) ⌝ }
-    requires { ⌜ l .0 < d .slots ⌝ }
-    requires { ⌜ spot prev (list-of (view d (now s)) (l .0)) < length (list-of (view d (now s)) (l .0)) ⌝ }
-    ensures { λ _. ⌜ Holds d (now (s .exit)) (unlinked (l .0) (spot prev (list-of (view d (now (s .entry))) (l .0))) (view d (now (s .entry)))) ⌝ }
-{
-    match prev {
-        Prev::Start => unlink_first(d, s, l),
-        Prev::After(q) => unlink_after(d, s, l, q),
-    }
-}
-
-// The node x at a place of the list of l goes to the end of the list of m, with the blocker b.
-pub fn move_to(d: Lists, s: &mut [u32], l: Lit, prev: Prev, x: usize, m: Lit, b: Lit)
-    requires { ⌜ Rep d (now s) ⌝ }
-    requires { ⌜ (l .0 < d .slots) × (m .0 < d .slots) × (l .0 ≡ m .0 → ⊥) ⌝ }
-    requires { ⌜ spot prev (list-of (view d (now s)) (l .0)) < length (list-of (view d (now s)) (l .0)) ⌝ }
-    requires { ⌜ x ≡ getD (list-of (view d (now s)) (l .0)) (spot prev (list-of (view d (now s)) (l .0))) 0 ⌝ }
-    ensures { λ _. ⌜ Holds d (now (s .exit)) (moved (l .0) (spot prev (list-of (view d (now (s .entry))) (l .0))) (m .0) (b .0) (view d (now (s .entry)))) ⌝ }
-{
-    unlink(d, s, l, prev);
-    append(d, s, m, x, b);
 }
 
 // All lists empty, whatever the block held.
@@ -262,72 +150,75 @@ pub fn start(d: Lists, s: &mut [u32])
     requires { ⌜ Room d (length (now s)) ⌝ }
     ensures { λ _. ⌜ Holds d (now (s .exit)) (emptied (d .slots) (view d (now (s .entry)))) ⌝ }
 {
-    let n = d.slots;
-    let mut l = 0;
-    while l < n {
-        put_count(d, s, l, 0);
-        l += 1;
+    let n = d.nodes;
+    let e = n + 2 * d.slots;
+    let mut x = n;
+    while x < e {
+        put_note(d, s, x, x as u32);
+        x += 1;
     }
-}
-
-// The node before a cursor, from its field.
-fn node_before(p: usize) -> Prev
-    ensures { λ r. ⌜ r ≡ node-before p ⌝ }
-{
-    if p == 0 {
-        return Prev::Start;
-    }
-    Prev::After(p - 1)
 }
 
 // The cursor at the start of the list of l.
 pub fn walk(d: Lists, s: &[u32], l: Lit) -> Cursor
     requires { ⌜ Rep d (now s) ⌝ }
     requires { ⌜ l .0 < d .slots ⌝ }
-    ensures { λ r. ⌜ Stands r (list-of (view d (now (s .entry))) (l .0)) × (r .left ≡ length (list-of (view d (now (s .entry))) (l .0))) ⌝ }
+    ensures { λ r. ⌜ Stands d (l .0) r (list-of (view d (now (s .entry))) (l .0)) × (r .passed ≡ 0) ⌝ }
 {
-    let p = l.0 as usize;
-    let x = head_at(d, s, p) as usize;
-    let n = count_at(d, s, p) as usize;
+    let e = home(d, l);
     Cursor {
-        prev: 0,
-        cur: x,
-        left: n,
+        at: e,
+        after: e + 1,
+        passed: 0,
     }
 }
 
-// The node at the cursor stays: on to the next.
-pub fn stay(d: Lists, s: &[u32], l: Lit, c: Cursor) -> Cursor
+// Whether the cursor is at a node, and not at the list's end.
+pub fn more(d: Lists, s: &[u32], l: Lit, c: Cursor) -> bool
     requires { ⌜ Rep d (now s) ⌝ }
     requires { ⌜ l .0 < d .slots ⌝ }
-    requires { ⌜ Stands c (list-of (view d (now s)) (l .0)) × (0 < c .left) ⌝ }
-    ensures { λ r. ⌜ Stands r (list-of (view d (now (s .entry))) (l .0)) × (suc (r .left) ≡ c .left) ⌝ }
+    requires { ⌜ Stands d (l .0) c (list-of (view d (now s)) (l .0)) ⌝ }
+    ensures { λ r. ⌜ r ≡ ltb (c .passed) (length (list-of (view d (now (s .entry))) (l .0))) ⌝ }
 {
-    let x = c.cur;
-    let n = c.left;
-    let y = next(d, s, x);
+    let e = home(d, l);
+    let t = note(d, s, e) as usize;
+    c.at != t
+}
+
+// The node at the cursor.
+pub fn node(d: Lists, s: &[u32], l: Lit, c: Cursor) -> usize
+    requires { ⌜ Rep d (now s) ⌝ }
+    requires { ⌜ l .0 < d .slots ⌝ }
+    requires { ⌜ Stands d (l .0) c (list-of (view d (now s)) (l .0)) × (c .passed < length (list-of (view d (now s)) (l .0))) ⌝ }
+    ensures { λ r. ⌜ (r ≡ getD (list-of (view d (now (s .entry))) (l .0)) (c .passed) 0) × (r < d .nodes) ⌝ }
+{
+    let a = c.at;
+    link(d, s, a) as usize
+}
+
+// The node x at the cursor stays: on to the next.
+pub fn stay(d: Lists, s: &[u32], l: Lit, c: Cursor, x: usize) -> Cursor
+    requires { ⌜ Rep d (now s) ⌝ }
+    requires { ⌜ l .0 < d .slots ⌝ }
+    requires { ⌜ Stands d (l .0) c (list-of (view d (now s)) (l .0)) × (c .passed < length (list-of (view d (now s)) (l .0))) ⌝ }
+    requires { ⌜ x ≡ getD (list-of (view d (now s)) (l .0)) (c .passed) 0 ⌝ }
+    ensures { λ r. ⌜ Stands d (l .0) r (list-of (view d (now (s .entry))) (l .0)) × (r .passed ≡ c .passed + 1) ⌝ }
+{
     Cursor {
-        prev: x + 1,
-        cur: y,
-        left: n - 1,
+        at: c.after,
+        after: x,
+        passed: c.passed + 1,
     }
 }
 
-// The node at the cursor goes to the end of the list of m, with the blocker b: on to the next.
-pub fn leave(d: Lists, s: &mut [u32], l: Lit, c: Cursor, m: Lit, b: Lit) -> Cursor
+// The node x at the cursor goes to the end of the list of m, with the blocker b. The cursor is at the next as it is.
+pub fn leave(d: Lists, s: &mut [u32], l: Lit, c: Cursor, x: usize, m: Lit, b: Lit)
     requires { ⌜ Rep d (now s) ⌝ }
     requires { ⌜ (l .0 < d .slots) × (m .0 < d .slots) × (l .0 ≡ m .0 → ⊥) ⌝ }
-    requires { ⌜ Stands c (list-of (view d (now s)) (l .0)) × (0 < c .left) ⌝ }
-    ensures { λ r. ⌜ Gone d (now (s .exit)) (l .0) (m .0) (b .0) (view d (now (s .entry))) c r ⌝ }
+    requires { ⌜ Stands d (l .0) c (list-of (view d (now s)) (l .0)) × (c .passed < length (list-of (view d (now s)) (l .0))) ⌝ }
+    requires { ⌜ x ≡ getD (list-of (view d (now s)) (l .0)) (c .passed) 0 ⌝ }
+    ensures { λ _. ⌜ Gone d (now (s .exit)) (l .0) (m .0) (b .0) (view d (now (s .entry))) c ⌝ }
 {
-    let p = c.prev;
-    let x = c.cur;
-    let n = c.left;
-    let y = next(d, s, x);
-    move_to(d, s, l, node_before(p), x, m, b);
-    Cursor {
-        prev: p,
-        cur: y,
-        left: n - 1,
-    }
+    unlink(d, s, l, c, x);
+    append(d, s, m, x, b);
 }

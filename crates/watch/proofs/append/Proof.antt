@@ -1,108 +1,81 @@
-use mathlib.Core.Path.{sym, ap, _∙_}
-use Prim.Native.Nat.{_+_}
-use native.Mathlib.Omega.{arith}
-use Rattle.watch.specs.Stores.{count-room, last-under, append-holds-first, append-holds-next}
+use Rattle.watch.specs.View.{cells-appended}
+use Rattle.watch.specs.Stores.{end-low, append-holds}
 use borrow.Author.Needs.{needs}
 use Rattle.watch.proofs.append.Statement.{statement}
 use Rattle.watch.proofs.append.Tie as tie
 
-cast-p : tie.Need-cast-p
-cast-p c = search needs
+home-requires : tie.Need-home-requires
+home-requires c κs = search needs
 
 cast-y : tie.Need-cast-y
 cast-y c = search needs
 
-count-at-requires : tie.Need-count-at-requires
-count-at-requires c κs = search needs
+note-requires : tie.Need-note-requires
+note-requires c κs = search needs
 
-tail-at-requires : tie.Need-tail-at-requires
-tail-at-requires c κs = search needs
+add-note : tie.Need-add-note
+add-note c = search needs
 
-put-tail-requires : tie.Need-put-tail-requires
-put-tail-requires c κs = search needs
+note-requires-2 : tie.Need-note-requires-2
+note-requires-2 c κs = search needs
 
-add-put-count : tie.Need-add-put-count
-add-put-count c =
-    let c7 = c .before .before .before .before .before .before .before in
-    let c11 = c7 .before .before .before .before in
-    let a = c11 .args in
-    let p = c11 .pre in
-    omega (arith, c7 .count-at .ensures, count-room (a .d) (a .s .now) (p .0) (a .l .0) (a .x) (a .b .0) (p .1 .0 .0) (p .1 .0 .1) (p .1 .1))
+put-note-requires : tie.Need-put-note-requires
+put-note-requires c κs = search needs
 
-put-count-requires : tie.Need-put-count-requires
-put-count-requires c κs = search needs
+put-note-requires-2 : tie.Need-put-note-requires-2
+put-note-requires-2 c κs = search needs
 
-put-blocker-requires : tie.Need-put-blocker-requires
-put-blocker-requires c κs = search needs
+add-put-note : tie.Need-add-put-note
+add-put-note c = search needs
 
-put-head-requires : tie.Need-put-head-requires
-put-head-requires c κs = search needs
+put-note-requires-3 : tie.Need-put-note-requires-3
+put-note-requires-3 c κs = search needs
 
-cast-put-next : tie.Need-cast-put-next
-cast-put-next c = search needs
+cast-put-link : tie.Need-cast-put-link
+cast-put-link c = search needs
 
-put-next-requires : tie.Need-put-next-requires
-put-next-requires c κs =
-    let c1 = c .before in
-    let c4 = c1 .before .before .before in
-    let c14 = c4 .before .before .before .before .before .before .before .before .before .before in
-    let c16 = c14 .before .before in
-    let c20 = c16 .before .before .before .before in
-    let a = c20 .args in
-    let p = c20 .pre in
-    (c4 .put-blocker .ensures .room, rw (c14 .tail-at .ensures) (last-under (a .d) (a .s .now) (p .0) (a .l .0) (a .x) (a .b .0) (p .1 .0 .0) (p .1 .0 .1) (p .1 .1) (rw (← c16 .count-at .ensures) (c1 .if1 .left))))
+put-link-requires : tie.Need-put-link-requires
+put-link-requires c κs =
+    let c3 = c .before .before .before in
+    let c15 = c3 .before .before .before .before .before .before .before .before .before .before .before .before in
+    let c17 = c15 .before .before in
+    let c19 = c17 .before .before in
+    let a = c19 .args in
+    (c3 .put-note3 .ensures .room, rw (c15 .note .ensures, c17 .home .ensures) (end-low (a .d) (a .s .now) (c19 .pre .0) (a .l .0) (c19 .pre .1 .0 .0)))
 
 same-length : tie.Need-same-length
 same-length c = search needs
 
 returns : tie.Need-returns
+unfolding cells-appended
 returns c =
     let c2 = c .before .before in
-    let c4 = c2 .before .before in
-    let c7 = c4 .before .before .before in
-    let c11 = c7 .before .before .before .before in
-    let c15 = c11 .before .before .before .before in
-    let c19 = c15 .before .before .before .before in
-    let c23 = c19 .before .before .before .before in
-    let a = c23 .args in
-    let p = c23 .pre in
-    append-holds-first (a .d) (a .s .now) (p .0) (a .l .0) (a .x) (a .b .0) (p .1 .0 .0) (p .1 .0 .1) (p .1 .1) _ _ (ap (λ k. k + 1) (c19 .count-at .ensures)) (sym (c19 .count-at .ensures) ∙ c4 .if1 .taken)
-    (rw (c7 .put-blocker .ensures .cells, c11 .put-count .ensures .cells, c15 .put-tail .ensures .cells) at (c2 .put-head .ensures))
-
-same-length-2 : tie.Need-same-length-2
-same-length-2 c = search needs
-
-returns-2 : tie.Need-returns-2
-returns-2 c =
-    let c2 = c .before .before in
-    let c4 = c2 .before .before in
-    let c7 = c4 .before .before .before in
-    let c11 = c7 .before .before .before .before in
-    let c15 = c11 .before .before .before .before in
-    let c17 = c15 .before .before in
-    let c19 = c17 .before .before in
-    let c23 = c19 .before .before .before .before in
-    let a = c23 .args in
-    let p = c23 .pre in
-    append-holds-next (a .d) (a .s .now) (p .0) (a .l .0) (a .x) (a .b .0) (p .1 .0 .0) (p .1 .0 .1) (p .1 .1) _ _ (ap (λ k. k + 1) (c19 .count-at .ensures)) (λ e. c4 .if1 .left (c19 .count-at .ensures ∙ e))
-    (rw (c7 .put-blocker .ensures .cells, c11 .put-count .ensures .cells, c15 .put-tail .ensures .cells, c17 .tail-at .ensures) at (c2 .put-next .ensures))
+    let c6 = c2 .before .before .before .before in
+    let c10 = c6 .before .before .before .before in
+    let c14 = c10 .before .before .before .before in
+    let c16 = c14 .before .before in
+    let c18 = c16 .before .before in
+    let c20 = c18 .before .before in
+    let c22 = c20 .before .before in
+    let a = c22 .args in
+    let p = c22 .pre in
+    append-holds (a .d) (a .s .now) (p .0) (a .l .0) (a .x) (a .b .0) (p .1 .0 .0) (p .1 .0 .1) (p .1 .1) _
+    (rw (c6 .put-note3 .ensures .cells, c10 .put-note2 .ensures .cells, c14 .put-note .ensures .cells, c18 .note .ensures, c16 .note2 .ensures, c20 .home .ensures) at (c2 .put-link .ensures))
 
 pub append-spec : {M : Type 1} → statement M
 append-spec =
     tie.close
     (tie.spec
-    cast-p
+    home-requires
     cast-y
-    count-at-requires
-    tail-at-requires
-    put-tail-requires
-    add-put-count
-    put-count-requires
-    put-blocker-requires
-    put-head-requires
-    cast-put-next
-    put-next-requires
+    note-requires
+    add-note
+    note-requires-2
+    put-note-requires
+    put-note-requires-2
+    add-put-note
+    put-note-requires-3
+    cast-put-link
+    put-link-requires
     same-length
-    returns
-    same-length-2
-    returns-2)
+    returns)

@@ -65,7 +65,7 @@ returns c =
     let p = c .before .before .before .before .before .before .before .before .before .before .before .before .before .pre in
     let u = c .before .before .start in
     let n = a .d .vars in
-    filled (a .d) (a .work .now) p 4 (19 * n + 5 * a .d .room + 1 + a .d .«lit_room») (22 * n + 5 * a .d .room + 2 + a .d .«lit_room») (omega arith) (omega arith) (omega arith) (omega (arith, p .fits)) (Unexplained (a .d) (u .result)) (u .last .1 .0) (u .kept .1 .0) (u .ensures)
+    filled (a .d) (a .work .now) p 4 (21 * n + 5 * a .d .room + 1 + a .d .«lit_room») (24 * n + 5 * a .d .room + 2 + a .d .«lit_room») (omega arith) (omega arith) (omega arith) (omega (arith, p .fits)) (Unexplained (a .d) (u .result)) (u .last .1 .0) (u .kept .1 .0) (u .ensures)
 
 pub fill-final-spec : {M : Type 1} → statement M
 fill-final-spec =

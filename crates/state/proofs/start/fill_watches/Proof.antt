@@ -47,7 +47,7 @@ returns c =
     let p = c .before .before .before .before .before .before .before .before .before .before .pre in
     let u = c .before .before .start in
     let n = a .d .vars in
-    filled (a .d) (a .work .now) p 2 (13 * n) (19 * n + 4 * a .d .room) (omega arith) (omega arith) (omega arith) (omega (arith, p .fits)) (Unlisted (a .d)) (u .last .1 .0) (u .kept .1 .0) (u .ensures)
+    filled (a .d) (a .work .now) p 2 (13 * n) (21 * n + 4 * a .d .room) (omega arith) (omega arith) (omega arith) (omega (arith, p .fits)) (Unlisted (a .d)) (u .last .1 .0) (u .kept .1 .0) (u .ensures)
 
 pub fill-watches-spec : {M : Type 1} → statement M
 fill-watches-spec =

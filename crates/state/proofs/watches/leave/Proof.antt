@@ -1,5 +1,6 @@
 use Prim.Native.Nat.{_<_}
 use mathlib.Core.Path.{_≡_}
+use lib.ListN.{length, getD}
 use Rattle.watch.specs.View.{list-of}
 use Rattle.watch.specs.Walk.{Stands}
 use Rattle.state.specs.WatchLaws.{ask-lists, lists-part, leave-returns}
@@ -32,7 +33,7 @@ leave-requires : tie.Need-leave-requires
 leave-requires c κs =
     let a = c .before .before .before .before .before .args in
     let p = c .before .before .before .before .before .pre in
-    ask-lists (a .d) (a .h) (a .work .now) (p .0) _ _ (c .before .lists .ensures) (lists-part (a .d) (a .h) (a .work .now) (p .0) _ _ _ (c .before .lists .ensures) (c .before .before .before .begin .ensures) (c .before .before .end .ensures)) (λ t v. ((a .l .0 < t .slots) × (a .m .0 < t .slots) × (a .l .0 ≡ a .m .0 → ⊥)) × (Stands (a .c) (list-of v (a .l .0)) × (0 < a .c .left))) (p .1)
+    ask-lists (a .d) (a .h) (a .work .now) (p .0) _ _ (c .before .lists .ensures) (lists-part (a .d) (a .h) (a .work .now) (p .0) _ _ _ (c .before .lists .ensures) (c .before .before .before .begin .ensures) (c .before .before .end .ensures)) (λ t v. ((a .l .0 < t .slots) × (a .m .0 < t .slots) × (a .l .0 ≡ a .m .0 → ⊥)) × ((Stands t (a .l .0) (a .c) (list-of v (a .l .0)) × (a .c .passed < length (list-of v (a .l .0)))) × (a .x ≡ getD (list-of v (a .l .0)) (a .c .passed) 0))) (p .1)
 
 same-length : tie.Need-same-length
 same-length c = search needs
@@ -42,7 +43,7 @@ returns c =
     let a = c .before .before .before .before .before .before .before .before .args in
     let p = c .before .before .before .before .before .before .before .before .pre in
     let u = c .before .before .leave in
-    leave-returns (a .d) (a .h) (a .work .now) (p .0) _ _ _ (c .before .before .before .before .lists .ensures) (c .before .before .before .before .before .before .begin .ensures) (c .before .before .before .before .before .end .ensures) (u .last .1 .0) (u .kept .1 .0) (a .l .0) (a .m .0) (a .b .0) (a .c) _ (u .ensures)
+    leave-returns (a .d) (a .h) (a .work .now) (p .0) _ _ _ (c .before .before .before .before .lists .ensures) (c .before .before .before .before .before .before .begin .ensures) (c .before .before .before .before .before .end .ensures) (u .last .1 .0) (u .kept .1 .0) (a .l .0) (a .m .0) (a .b .0) (a .c) (u .ensures)
 
 pub leave-spec : {M : Type 1} → statement M
 leave-spec =

@@ -20,7 +20,7 @@ returns : tie.Need-returns
 returns c =
     let a = c .before .before .before .before .args in
     let p = c .before .before .before .before .pre in
-    rw (lists-view (a .d) (a .h) (a .work .now) (p .0) _ _ (c .before .before .lists .ensures) (c .before .block .ensures)) at (c .walk .ensures)
+    rw (lists-view (a .d) (a .h) (a .work .now) (p .0) _ _ (c .before .before .lists .ensures) (c .before .block .ensures), c .before .before .lists .ensures) at (c .walk .ensures)
 
 pub walk-spec : {M : Type 1} → statement M
 walk-spec = tie.close (tie.spec lists-requires block-requires walk-requires returns)

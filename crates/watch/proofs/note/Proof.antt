@@ -1,0 +1,25 @@
+use Rattle.watch.specs.Cells.{note-get}
+use borrow.Author.Needs.{needs}
+use Rattle.watch.proofs.note.Statement.{statement}
+use Rattle.watch.proofs.note.Tie as tie
+
+mul-result : tie.Need-mul-result
+mul-result c = search needs
+
+add-result : tie.Need-add-result
+add-result c = search needs
+
+mul-result-2 : tie.Need-mul-result-2
+mul-result-2 c = search needs
+
+shared-slice-read-result : tie.Need-shared-slice-read-result
+shared-slice-read-result c = search needs
+
+returns : tie.Need-returns
+returns c =
+    let c1 = c .before in
+    note-get (c1 .args .d) (c1 .args .s .now) (c1 .pre .0) (c1 .args .x) (c1 .pre .1)
+
+pub note-spec : {M : Type 1} → statement M
+note-spec =
+    tie.close (tie.spec mul-result add-result mul-result-2 shared-slice-read-result returns)

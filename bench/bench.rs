@@ -6,7 +6,7 @@
 //!   bench cost SCRIPT                conflicts, decisions and propagations, patched and with the Rust's heap
 //!   bench dimacs SCRIPT              the formula as DIMACS, where the script is one formula and one solve
 //!
-//! C and L are what the run stores, but for the scripts of `sizes`. The slices are allocated and written before the
+//! C and L are what the run stores, but for the scripts of `sizes` and of `long`. The slices are allocated and written before the
 //! clock starts; what the engine fills at the start and clears at the end is in its time, and what the Rust allocates
 //! is in its own.
 //! The engine runs the same search as the patched Rust, so conflicts and propagations are those of both; that
@@ -54,12 +54,17 @@ struct Named {
     script: Script,
     /// C and L, where they are not what the run stores.
     room: Option<(u32, u32)>,
+    /// Whether it may store more than C and L allow: then it stops there, on both sides.
+    long: bool,
 }
+
+/// The largest C and L.
+const MOST: (u32, u32) = (65535, 1048576);
 
 fn one(family: &'static str, name: String, f: Formula, budget: u32) -> Named {
     let mut records: Vec<Record> = f.clauses.into_iter().map(Record::Clause).collect();
     records.push(Record::Solve(vec![], budget));
-    Named { family, name, script: Script { vars: f.vars, mode: 2, phase: 2, unit: 100, records }, room: None }
+    Named { family, name, script: Script { vars: f.vars, mode: 2, phase: 2, unit: 100, records }, room: None, long: false }
 }
 
 /// Solves under assumptions, a clause between them.
@@ -73,7 +78,7 @@ fn incremental(seed: u64, vars: u32, solves: u32) -> Named {
         records.push(Record::Clause(k_sat(&mut rng, vars, 3, 1.0 / vars as f64).clauses.remove(0)));
     }
     let script = Script { vars, mode: 2, phase: 2, unit: 100, records };
-    Named { family: "assumptions", name: format!("assumed-{}-{}", vars, seed), script, room: None }
+    Named { family: "assumptions", name: format!("assumed-{}-{}", vars, seed), script, room: None, long: false }
 }
 
 fn sat(vars: u32, seed: u64) -> Named {
@@ -123,6 +128,32 @@ fn timed() -> Vec<Named> {
     ]
 }
 
+/// The runs that users wait for: thousands of learnt clauses pile up, to the budget or to the largest C and L.
+fn long() -> Vec<Named> {
+    let to = |budget: u32, n: Named| {
+        let mut script = n.script;
+        let last = script.records.pop();
+        assert!(matches!(last, Some(Record::Solve(..))));
+        script.records.push(Record::Solve(vec![], budget));
+        Named { name: format!("{}-to-{}", n.name, budget), script, long: true, ..n }
+    };
+    vec![
+        to(100000, sat(250, 2)),
+        to(100000, sat(250, 5)),
+        to(40000, holes(9)),
+        Named { long: true, ..charges(28, 2) },
+        to(40000, equations(140, 2)),
+        to(40000, colours(600, 1)),
+        to(40000, board(40)),
+        Named { long: true, ..incremental(4, 250, 60) },
+    ]
+}
+
+/// Small enough for callgrind with a model of the caches.
+fn cached() -> Vec<Named> {
+    vec![sat(150, 1), holes(6), charges(18, 1)]
+}
+
 /// The sizes of `loadsat`, and the largest that a script may ask for: there the engine fills and clears all of work.
 fn sizes() -> Vec<Named> {
     let sat = |name: &str, vars: u32, seed: u64, budget: u32, room: (u32, u32)| {
@@ -155,7 +186,7 @@ fn growing() -> Vec<Named> {
 }
 
 fn find(name: &str) -> Named {
-    let all = timed().into_iter().chain(sizes()).chain(counted()).chain(growing());
+    let all = timed().into_iter().chain(long()).chain(sizes()).chain(counted()).chain(growing());
     all.into_iter().find(|n| n.name == name).expect("a script's name")
 }
 
@@ -190,9 +221,8 @@ fn lent(n: &Named) -> Lent {
     let script = &n.script;
     let mut stored = (0, 0);
     oracle::run_with(&script.cells(0, 0), |a| stored = (a.clauses as u32, a.literals as u32));
-    let room = n.room.unwrap_or(stored);
-    assert!(stored.0 <= room.0 && stored.1 <= room.1, "{} clauses, {} literals", stored.0, stored.1);
-    assert!(room.0 <= 65535 && room.1 <= 1048576, "{} clauses, {} literals", room.0, room.1);
+    let room = n.room.unwrap_or((stored.0.min(MOST.0), stored.1.min(MOST.1)));
+    assert!(n.long || (stored.0 <= room.0 && stored.1 <= room.1), "{} clauses, {} literals", stored.0, stored.1);
     let cells = script.cells(room.0, room.1);
     Lent {
         work: vec![1; binding::work_len(script.vars, room.0, room.1) as usize],
@@ -232,20 +262,22 @@ fn once(side: &str, n: &Named) {
 }
 
 /// The best time of each side, and the Rust's cost.
-fn times(n: &Named, repeats: u32) -> (f64, f64, oracle::Cost) {
+fn times(n: &Named, repeats: u32) -> (f64, f64, f64, oracle::Cost) {
     let mut l = lent(n);
-    let mut best = (f64::MAX, f64::MAX);
+    let mut best = (f64::MAX, f64::MAX, f64::MAX);
     let mut cost = oracle::Cost::default();
     for _ in 0..repeats {
         let start = seconds();
         let ours = engine(&mut l);
         let between = seconds();
         let (theirs, c) = rust_run(&l.script);
-        best = (best.0.min(between - start), best.1.min(seconds() - between));
+        let end = seconds();
+        assert!(!heap_run(&l.script).0.is_empty());
+        best = (best.0.min(between - start), best.1.min(end - between), best.2.min(seconds() - end));
         assert!(ours == theirs, "the answers differ");
         cost = c;
     }
-    (best.0, best.1, cost)
+    (best.0, best.1, best.2, cost)
 }
 
 // ---- other programs
@@ -266,6 +298,23 @@ fn instructions(side: &str, name: &str) -> Option<u64> {
             .args(["once", side, name]),
     )?;
     text.lines().find_map(|l| l.split("Collected : ").nth(1)?.trim().parse().ok())
+}
+
+/// Instructions, and misses of reads and writes in the first and in the last cache, of one run on a side.
+fn misses(side: &str, name: &str) -> Option<[u64; 3]> {
+    let me = std::env::current_exe().expect("this program");
+    let text = said(
+        Command::new("valgrind")
+            .args(["--tool=callgrind", "--callgrind-out-file=/dev/null", "--cache-sim=yes", "--D1=49152,12,64", "--LL=524288,8,64"])
+            .arg(format!("--toggle-collect={}_run", side))
+            .arg(me)
+            .args(["once", side, name]),
+    )?;
+    let first = |key: &str| -> Option<u64> {
+        let line = text.lines().find_map(|l| l.split(key).nth(1))?;
+        line.split_whitespace().next()?.replace(',', "").parse().ok()
+    };
+    Some([first("I   refs:")?, first("D1  misses:")?, first("LLd misses:")?])
 }
 
 /// Seconds and conflicts of another solver, where it is installed.
@@ -301,22 +350,22 @@ fn beside(n: &Named, program: &str, words: &[&str], repeats: u32) -> String {
     let file = std::env::temp_dir().join(format!("bench-{}.cnf", std::process::id()));
     let file = file.to_str().expect("a path");
     std::fs::write(file, text).expect("a file to write");
-    let cell = other(program, words, file, repeats).map_or("-".to_string(), |(s, c)| format!("{:.3} ({})", s, c));
+    let cell = other(program, words, file, repeats).map_or("not at hand".to_string(), |(s, c)| format!("{:.3} ({})", s, c));
     let _ = std::fs::remove_file(file);
     cell
 }
 
 /// Times of both sides, and of other solvers; gives engine/Rust by family and script.
 fn timed_table(scripts: Vec<Named>, repeats: u32) -> Vec<(&'static str, String, f64)> {
-    println!("| family | script | V | conflicts | propagations | engine s | Rust s | engine/Rust | minisat s (conflicts) | cadical s (conflicts) |");
-    println!("|---|---|---|---|---|---|---|---|---|---|");
+    println!("| family | script | V | conflicts | propagations | engine s | Rust s | engine/Rust | unpatched Rust s | minisat s (conflicts) | cadical s (conflicts) |");
+    println!("|---|---|---|---|---|---|---|---|---|---|---|");
     let mut ratios = vec![];
     for n in scripts {
-        let (ours, theirs, cost) = times(&n, repeats);
+        let (ours, theirs, heap, cost) = times(&n, repeats);
         let (minisat, cadical) = (beside(&n, "minisat", &[], repeats), beside(&n, "cadical", &["-n"], repeats));
         println!(
-            "| {} | {} | {} | {} | {} | {:.4} | {:.4} | {:.2} | {} | {} |",
-            n.family, n.name, n.script.vars, cost.conflicts, cost.propagations, ours, theirs, ours / theirs, minisat, cadical
+            "| {} | {} | {} | {} | {} | {:.4} | {:.4} | {:.2} | {:.4} | {} | {} |",
+            n.family, n.name, n.script.vars, cost.conflicts, cost.propagations, ours, theirs, ours / theirs, heap, minisat, cadical
         );
         ratios.push((n.family, n.name, ours / theirs));
     }
@@ -344,13 +393,26 @@ fn counted_table() {
     println!("\nGeometric mean over the families of engine/Rust: {:.3}\n", mean(&ratios));
 }
 
+fn cached_table() {
+    println!("| script | instructions: engine, Rust | misses of a first cache of 48 KB: engine, Rust | misses of a last cache of 512 KB: engine, Rust |");
+    println!("|---|---|---|---|");
+    for n in cached() {
+        let (Some(a), Some(b)) = (misses("engine", &n.name), misses("rust", &n.name)) else {
+            println!("\nNo valgrind: nothing is counted.");
+            return;
+        };
+        println!("| {} | {}, {} | {}, {} | {}, {} |", n.name, a[0], b[0], a[1], b[1], a[2], b[2]);
+    }
+    println!();
+}
+
 /// What a propagation and a conflict cost as V grows; gives V and the nanoseconds for a propagation of both sides.
 fn growing_table(repeats: u32) -> Vec<(u32, f64, f64)> {
     println!("| V | conflicts | decisions | propagations | ns for a propagation: engine, Rust | µs for a conflict: engine, Rust | instructions for a propagation, a decision, a conflict: engine | Rust | Rust with its heap |");
     println!("|---|---|---|---|---|---|---|---|---|");
     let mut rows = vec![];
     for n in growing() {
-        let (ours, theirs, cost) = times(&n, repeats);
+        let (ours, theirs, _, cost) = times(&n, repeats);
         let heap = heap_run(&n.script.cells(0, 0)).1;
         let counts = |side: &str, c: u64, d: u64, p: u64| match instructions(side, &n.name) {
             None => "-".to_string(),
@@ -383,11 +445,16 @@ fn tables(repeats: u32, folder: &str) {
     let by_family: Vec<(&str, f64)> = ratios.iter().map(|r| (r.0, r.2)).collect();
     println!("Geometric mean over the families of engine/Rust: {:.3}\n", mean(&by_family));
     println!("![engine/Rust by script](ratios.svg)\n");
+    println!("### Long runs\n");
+    println!("To a budget of conflicts, or to the largest C and L: there both sides stop.\n");
+    timed_table(long(), 1);
     println!("### Sizes\n");
     println!("C and L of `loadsat` (512 and 4,096), and the largest (65,535 and 1,048,576).\n");
     timed_table(sizes(), repeats);
     println!("### Instructions\n");
     counted_table();
+    println!("### Caches\n");
+    cached_table();
     println!("### As V grows\n");
     let growth = growing_table(repeats);
     println!("![nanoseconds for a propagation by V](growth.svg)");
@@ -403,7 +470,7 @@ fn main() {
         ["table", repeats, folder] => tables(repeats.parse().expect("a number"), folder),
         ["once", side, name] => once(side, &find(name)),
         ["time", name, repeats] => {
-            let (ours, theirs, _) = times(&find(name), repeats.parse().expect("a number"));
+            let (ours, theirs, _, _) = times(&find(name), repeats.parse().expect("a number"));
             println!("{} engine={:.6} rust={:.6} ratio={:.3}", name, ours, theirs, ours / theirs);
         }
         ["cost", name] => {

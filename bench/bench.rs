@@ -357,7 +357,7 @@ fn beside(n: &Named, program: &str, words: &[&str], repeats: u32) -> String {
 
 /// Times of both sides, and of other solvers; gives engine/Rust by family and script.
 fn timed_table(scripts: Vec<Named>, repeats: u32) -> Vec<(&'static str, String, f64)> {
-    println!("| family | script | V | conflicts | propagations | engine s | Rust s | engine/Rust | unpatched Rust s | minisat s (conflicts) | cadical s (conflicts) |");
+    println!("| family | script | V | conflicts | propagations | engine s | Rust s | engine/Rust | Rust with its heap s | minisat s (conflicts) | cadical s (conflicts) |");
     println!("|---|---|---|---|---|---|---|---|---|---|---|");
     let mut ratios = vec![];
     for n in scripts {

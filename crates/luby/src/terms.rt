@@ -6,7 +6,7 @@ ghost use Rattle.luby.specs.Table.{count, Checked};
 pub const COUNT: u32 = 1023;
 
 #[rattlefmt::skip]
-const TERMS: [u32; 1023] = [
+const TERMS: [u16; 1023] = [
     1, 1, 2, 1, 1, 2, 4, 1, 1, 2, 1, 1, 2, 4, 8, // 0 to 14
     1, 1, 2, 1, 1, 2, 4, 1, 1, 2, 1, 1, 2, 4, 8, 16, // 15 to 30
     1, 1, 2, 1, 1, 2, 4, 1, 1, 2, 1, 1, 2, 4, 8, // 31 to 45
@@ -74,12 +74,12 @@ const TERMS: [u32; 1023] = [
 ];
 
 // Entry x of a table that passes the test.
-fn entry(table: &[u32; 1023], x: u32) -> u32
+fn entry(table: &[u16; 1023], x: u32) -> u32
     requires { ⌜ Checked (now table) ⌝ }
     requires { ⌜ x < count ⌝ }
     ensures { λ r. ⌜ Term x r ⌝ }
 {
-    table[x as usize]
+    table[x as usize] as u32
 }
 
 // Term x, off the table.

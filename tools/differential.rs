@@ -315,7 +315,7 @@ fn vectors(lent: &mut Lent, path: &str) -> (u64, Vec<String>) {
 type Made = fn(&mut Rng) -> Script;
 type Listed = fn(&mut dyn FnMut(Script));
 
-const RANDOM: [(&str, u64, Made); 13] = [
+const RANDOM: [(&str, u64, Made); 14] = [
     ("tiny", 60000, shapes::tiny),
     ("small", 60000, shapes::small),
     ("trimmed", 20000, shapes::trimmed),
@@ -329,6 +329,7 @@ const RANDOM: [(&str, u64, Made); 13] = [
     ("middling", 2000, shapes::middling),
     ("long", 60, shapes::long),
     ("longest", 4, shapes::longest),
+    ("restarts", 3, shapes::restarts),
 ];
 
 const LISTED: [(&str, Listed); 4] = [

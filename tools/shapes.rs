@@ -716,6 +716,21 @@ pub fn longest(rng: &mut Rng) -> Script {
     options(rng, vars, records)
 }
 
+/// One solve of more than 10,240 conflicts with unit 1: past the table of Luby's terms (terms 0 to 1,022, 5,120 conflicts) and past
+/// terms 1,023 to 2,045, which repeat it, so that a table that wraps would show. Solves under many assumptions, which end by themselves,
+/// show what state it left.
+pub fn restarts(rng: &mut Rng) -> Script {
+    let mut f = k_sat(rng, 250, 3, 4.3);
+    renamed(rng, &mut f);
+    let vars = f.vars;
+    let mut records: Vec<Record> = f.clauses.into_iter().map(Clause).collect();
+    records.push(Solve(vec![], 14000));
+    for _ in 0..4 {
+        records.push(Solve(distinct(rng, vars, 12), 3000));
+    }
+    Script { unit: 1, ..options(rng, vars, records) }
+}
+
 // ---- all small scripts
 
 /// All lists of up to `length` of the kinds, in turn.

@@ -32,11 +32,11 @@ fn line() {
     io::write_all(1, b"\n");
 }
 
-// The first n terms.
-fn terms(n: u32)
-    requires { ⌜ n < 131072 ⌝ }
+// Terms first to end - 1.
+fn terms(first: u32, end: u32)
+    requires { ⌜ (first ≤ end) × (end < 131072) ⌝ }
 {
-    for x in 0..n {
+    for x in first..end {
         number(luby::luby(x) as u64);
     }
     line();
@@ -135,7 +135,9 @@ fn sets(d: Size, s: &mut [u32])
 }
 
 fn main() {
-    terms(15);
+    terms(0, 15);
+    terms(1021, 1026);
+    terms(2044, 2048);
     let mut act = [1.0f64; 3];
     let inc = activity::initial(&mut act);
     let once = bumps(&mut act, Var(1), inc, 1);

@@ -4,6 +4,8 @@ ghost use Prim.Native.Nat.{_<_};
 ghost use Rattle.model.specs.Luby.{climb, descend, luby};
 ghost use Rattle.luby.specs.Laws.{Beginning, Climbed, Term};
 
+mod terms;
+
 // A beginning of the sequence of `size` = 2 ^ (seq + 1) - 1 terms.
 struct Part {
     size: u32,
@@ -43,10 +45,22 @@ fn descend(from: Part, x: u32) -> u32
     seq
 }
 
-// Term x, from 0: the Rust's `luby` at base 2.
-pub fn luby(x: u32) -> u32
+// Term x by the Rust's two loops, at base 2.
+fn by_loops(x: u32) -> u32
     requires { ⌜ x < 131072 ⌝ }
     ensures { λ r. ⌜ Term x r ⌝ }
 {
     1 << descend(climb(x), x)
+}
+
+// Term x, from 0: off the table, and by the loops beyond it.
+pub fn luby(x: u32) -> u32
+    requires { ⌜ x < 131072 ⌝ }
+    ensures { λ r. ⌜ Term x r ⌝ }
+{
+    if x < terms::COUNT {
+        terms::term(x)
+    } else {
+        by_loops(x)
+    }
 }

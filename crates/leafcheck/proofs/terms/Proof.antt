@@ -4,10 +4,10 @@ use Rattle.leafcheck.proofs.terms.Statement.{statement}
 use Rattle.leafcheck.proofs.terms.Tie as tie
 
 abbrev Inv-loop : tie.InvT-loop
-Inv-loop n x₀ x = x ≤ n
+Inv-loop first end x₀ x = x ≤ end
 
 abbrev μ-loop : tie.MeasureT-loop
-μ-loop n x₀ x = n - x
+μ-loop first end x₀ x = end - x
 
 loop-holds : tie.Need-loop-holds Inv-loop μ-loop
 loop-holds c = search needs

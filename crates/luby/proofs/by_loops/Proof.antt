@@ -2,8 +2,8 @@ use mathlib.Core.Path.{_≡_, _∙_}
 use native.Mathlib.Omega.{arith}
 use Rattle.luby.specs.Laws.{exponent-lt, shifted}
 use borrow.Author.Needs.{needs}
-use Rattle.luby.proofs.luby.Statement.{statement}
-use Rattle.luby.proofs.luby.Tie as tie
+use Rattle.luby.proofs.by_loops.Statement.{statement}
+use Rattle.luby.proofs.by_loops.Tie as tie
 
 climb-requires : tie.Need-climb-requires
 climb-requires c κs = search needs
@@ -17,5 +17,5 @@ shl-result c = omega (arith, exponent-lt (c .before .before .args .x) (c .before
 returns : tie.Need-returns
 returns c = shifted (c .before .before .args .x) (c .descend .result) (c .before .before .pre) (c .descend .ensures ∙ c .before .climb .ensures .finds)
 
-pub luby-spec : {M : Type 1} → statement M
-luby-spec = tie.close (tie.spec climb-requires descend-requires shl-result returns)
+pub by-loops-spec : {M : Type 1} → statement M
+by-loops-spec = tie.close (tie.spec climb-requires descend-requires shl-result returns)

@@ -5,3 +5,4 @@ pub mod Extend
 pub mod Ranges
 pub mod Theorem
 pub mod Reads
+pub mod Writing

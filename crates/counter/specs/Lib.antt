@@ -6,3 +6,5 @@ pub mod Ranges
 pub mod Theorem
 pub mod Reads
 pub mod Writing
+pub mod Judge
+pub mod Answers

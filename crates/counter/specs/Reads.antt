@@ -171,10 +171,20 @@ module _ (h : List ℕ) (e : length h ≡ header-cells) (cs : List (List ℕ)) w
       }
       ∙ ap (accepted (header script)) records-written
 
--- so are the clauses of a call that is not turned back, in a script of its V
-pub at-most-accepted : (v : ℕ) (ls : List ℕ) (k first : ℕ) → Fit v ls k first → (h : List ℕ) → length h ≡ header-cells → HeaderIn (h ++ cells (at-most k first ls))
-    → header (h ++ cells (at-most k first ls)) .variables ≡ v → (work activities out : ℕ) → work-needed (header (h ++ cells (at-most k first ls))) ≤ work → v ≤ activities
-    → length (at-most k first ls) ≤ out
-    → read (h ++ cells (at-most k first ls)) work activities out ≡ accepted (header (h ++ cells (at-most k first ls))) (map clause (at-most k first ls))
-at-most-accepted v ls k first f h e i p work activities out w a o =
-    written-accepted h e (at-most k first ls) i (subst (λ (u : ℕ). Every (LiteralsFit u) (at-most k first ls)) (sym p) (at-most-fits v ls k first f)) work activities out w (omega (arith, p, a)) o
+-- Behind any header of v variables that is in order, and with slices that are long enough, a script of the cells is accepted, and its records are the clauses.
+abbrev pub Reads-back : ℕ → List (List ℕ) → Type 0
+Reads-back v cs =
+    (h : List ℕ)
+    → length h ≡ header-cells
+    → HeaderIn (h ++ cells cs)
+    → header (h ++ cells cs) .variables ≡ v
+    → (work activities out : ℕ)
+    → work-needed (header (h ++ cells cs)) ≤ work
+    → v ≤ activities
+    → length cs ≤ out
+    → read (h ++ cells cs) work activities out ≡ accepted (header (h ++ cells cs)) (map clause cs)
+
+pub reads-back : (v : ℕ) (ls : List ℕ) (k first : ℕ) → Fit v ls k first → Reads-back v (at-most k first ls)
+reads-back v ls k first f h e i p work activities out w a o =
+    written-accepted h e (at-most k first ls) i (subst (λ (u : ℕ). Every (LiteralsFit u) (at-most k first ls)) (sym p) (at-most-fits v ls k first f)) work activities out w
+    (omega (arith, p, a)) o

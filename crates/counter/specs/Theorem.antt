@@ -28,6 +28,11 @@ true-in row (l ∷ ls) = bit (holds row l) + true-in row ls
 abbrev pub Same-values : List ℕ → List ℕ → List ℕ → Type 0
 Same-values row row′ ls = Every (λ l. getD row′ (var l) 2 ≡ getD row (var l) 2) ls
 
+-- Values of the literals extend to a model of the clauses if and only if at most k are true.
+abbrev pub Exactly : ℕ → List ℕ → ℕ → ℕ → Type 0
+Exactly v ls k first =
+    (row : List ℕ) → T (is-row v row) → ((row′ : List ℕ) × T (is-row v row′) × Same-values row row′ ls × T (is-model row′ (at-most k first ls))) ↔ (true-in row ls ≤ k)
+
 -- ---- the book's count, and that of a row that is a function
 
 holds-is-sat : (row : List ℕ) (l : ℕ) → var l < length row → holds row l ≡ sat (row-of row) l
@@ -162,9 +167,7 @@ module _ (v : ℕ) (ls : List ℕ) (k first : ℕ) (f : Fit v ls k first) where
       refl
       (at-most-fits v ls k first f)
 
-  -- values of the literals extend to a model of the clauses if and only if at most k are true
-  pub exactly : (row : List ℕ) → T (is-row v row)
-      → ((row′ : List ℕ) × T (is-row v row′) × Same-values row row′ ls × T (is-model row′ (at-most k first ls))) ↔ (true-in row ls ≤ k)
+  pub exactly : Exactly v ls k first
   exactly row h = (
     (λ m. subst (λ (n : ℕ). n ≤ k) (counts-same row (m .0) ls (m .2)) (only (m .0) (m .1) (m .3))),
     (λ le.

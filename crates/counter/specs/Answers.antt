@@ -65,6 +65,17 @@ unfolding first-failing
 hold-first [] a h = refl
 hold-first (row n b p ∷ rows) a h = rw (h .0, first-failing) (hold-first rows a (h .1))
 
+-- every row has a number
+abbrev Numbered : List Row → Type 0
+Numbered [] = Unit {0}
+Numbered (row number b place ∷ rows) = (1 ≤ number) × Numbered rows
+
+numbered : (rows : List Row) → Numbered rows → (n number place : ℕ) → first-failing rows (ran n) ≡ turned-back number place → 1 ≤ number
+unfolding first-failing
+numbered [] h n number place e = let z : _≡_ {A = ℕ} 0 1 = cc in absurd (omega arith)
+numbered (row m true p ∷ rows) h n number place e = numbered rows (h .1) n number place e
+numbered (row m false p ∷ rows) h n number place e = let q : m ≡ number = cc in omega (arith, h .0, q)
+
 module _ (v : ℕ) (ls : List ℕ) (k first : ℕ) (out : List ℕ) where
   abbrev rows : List Row
   rows = at-most-rows v ls k first (length out)
@@ -126,3 +137,18 @@ module _ (v : ℕ) (ls : List ℕ) (k first : ℕ) (out : List ℕ) where
           says = λ m g. exactly v ls k first accepted-fit;
           reads = λ m g. reads-back v ls k first accepted-fit;
         }
+
+  -- ---- a refusal's number is not 0
+
+  answer-is : after v ls k first out .answer ≡ first-failing rows (ran (length written))
+  unfolding after
+  answer-is = go (first-failing rows (ran (length written))) refl
+    where
+      go : (x : model.Answer) → first-failing rows (ran (length written)) ≡ x → after v ls k first out .answer ≡ first-failing rows (ran (length written))
+      go (turned-back number place) e = rw (e, after)
+      go (ran n) e = rw (e, after)
+
+  pub refusal-numbered : (number place : ℕ) → after v ls k first out .answer ≡ turned-back number place → 1 ≤ number
+  unfolding at-most-rows
+  refusal-numbered number place e =
+      numbered rows (omega arith, (omega arith, (omega arith, (omega arith, (omega arith, (omega arith, (omega arith, tt))))))) (length written) number place (sym answer-is ∙ e)

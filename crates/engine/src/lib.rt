@@ -84,13 +84,16 @@ pub extern "C" fn engine_at_most(
 {
     let a = counter::at_most(v, literals, k, first_helper, out);
     match a {
-        counter::Answer::Refused { number, place } => {
-            *refusal = number;
-            place
+        counter::Answer::Refused {
+            number: why,
+            place: at,
+        } => {
+            *refusal = why;
+            at
         }
-        counter::Answer::Written { cells } => {
+        counter::Answer::Written { cells: n } => {
             *refusal = 0;
-            cells
+            n
         }
     }
 }

@@ -35,8 +35,11 @@ enum engine_refusal {
     ENGINE_BAD_LITERAL = 9,      /* a literal is 2 V or more; place: its cell */
     ENGINE_BAD_COUNT = 10,       /* a count is over 2 V; place: its cell */
     ENGINE_BAD_BUDGET = 11,      /* a budget is over 1,000,000; place: its cell */
-    ENGINE_SHORT_OUT = 12        /* out has under clauses + solves (V + 4) cells; place: that number, or 4,294,967,295 if it is more */
-    /* 13 to 15 are refusals of loadsat's text, which this library does not read */
+    ENGINE_SHORT_OUT = 12,       /* out has under clauses + solves (V + 4) cells; place: that number, or 4,294,967,295 if it is more */
+    /* 13 to 15 are refusals of loadsat's text, which this library does not read. Those below, and 2 before them, are engine_at_most's. */
+    ENGINE_BAD_COUNTED = 18,     /* not 1 to 64 literals, or one is 2 V or more; place: 0 */
+    ENGINE_SHARED_VARIABLE = 19, /* two literals share a variable, or a helper in use is among them or is V or more; place: 0 */
+    ENGINE_SHORT_CLAUSES = 20    /* the slice is too short for the clauses; place: the length needed */
 };
 
 /* What a clause's out cell says. */
@@ -78,6 +81,21 @@ uint64_t engine_work_len(uint32_t v, uint32_t c, uint32_t l);
 
 /* The out cells that an accepted script needs: clauses + solves (V + 4). 0 if its header or a record is turned back; engine_run says why. */
 uint64_t engine_out_len(const uint32_t *script, size_t script_len);
+
+/* Writes clauses that say 'at most k of these literals are true' into out, as records of kind 1 for a script of V variables: Sinz's sequential counter.
+ * It takes (n - 1) k helper variables, n being literals_len, from first_helper on, none if k is 0, n or more. Values of the literals extend to a model of
+ * the clauses if and only if at most k are true; so add them to a script that names the helpers nowhere else.
+ *
+ * If it is accepted, *refusal is 0 and the result is how many cells of out were written; the rest of out is as it was.
+ * If it is refused, *refusal is 2, 18, 19 or 20, the result its place, and out is as it was. The slices are as engine_run asks for them. */
+uint64_t engine_at_most(uint32_t v,
+                        const uint32_t *literals, size_t literals_len,
+                        uint32_t k, uint32_t first_helper,
+                        uint32_t *out, size_t out_len,
+                        uint32_t *refusal);
+
+/* The cells that the clauses for n literals take. 0 if n is over 64; engine_at_most says why. */
+uint64_t engine_at_most_len(uint32_t n, uint32_t k);
 
 #ifdef __cplusplus
 }

@@ -16,6 +16,17 @@ pub mod c {
         ) -> u64;
         pub fn engine_work_len(v: u32, c: u32, l: u32) -> u64;
         pub fn engine_out_len(script: *const u32, script_len: usize) -> u64;
+        pub fn engine_at_most(
+            v: u32,
+            literals: *const u32,
+            literals_len: usize,
+            k: u32,
+            first_helper: u32,
+            out: *mut u32,
+            out_len: usize,
+            refusal: *mut u32,
+        ) -> u64;
+        pub fn engine_at_most_len(n: u32, k: u32) -> u64;
     }
 }
 
@@ -68,4 +79,24 @@ pub fn work_len(v: u32, c: u32, l: u32) -> u64 {
 pub fn out_len(script: &[u32]) -> u64 {
     // SAFETY: the slice is passed with its length, and only read
     unsafe { c::engine_out_len(script.as_ptr(), script.len()) }
+}
+
+/// Writes clauses that say 'at most k of these literals', of a script of `v` variables, into `out`, with helper variables from `first_helper` on; the result is
+/// how many cells were written.
+pub fn at_most(v: u32, literals: &[u32], k: u32, first_helper: u32, out: &mut [u32]) -> Result<u64, Refusal> {
+    let mut number = 0;
+    // SAFETY: each slice is passed with its own length, and the one that is written does not overlap the other
+    let result =
+        unsafe { c::engine_at_most(v, literals.as_ptr(), literals.len(), k, first_helper, out.as_mut_ptr(), out.len(), &mut number) };
+    if number == 0 {
+        Ok(result)
+    } else {
+        Err(Refusal { number, place: result })
+    }
+}
+
+/// The cells that the clauses for n literals take.
+pub fn at_most_len(n: u32, k: u32) -> u64 {
+    // SAFETY: it takes numbers alone
+    unsafe { c::engine_at_most_len(n, k) }
 }

@@ -19,7 +19,8 @@ struct Book {
     materials: Vec<String>,
     valves: Vec<String>,        // from one end of the rack to the other
     wishes: Vec<(String, u32)>, // the words, and the literal that is assumed
-    selectors: usize,           // variables that stand for wishes with 'beside'
+    head: Vec<usize>,           // the valves of 'this head'
+    selectors: usize,           // variables that stand for wishes with 'beside', and helpers of rules that count
     records: Vec<u32>,          // the clauses, as cells of a script
     clauses: usize,
 }
@@ -75,6 +76,8 @@ impl Book {
             _ if self.vars() == 0 => return Err(format!("a book begins with 'materials:' and 'valves:', not with '{key}:'")),
             ("wish", text) => self.wish(text)?,
             ("never next to each other", list) => self.never_next(&names(list)?)?,
+            ("head", list) => self.head = names(list)?.iter().map(|name| find(&self.valves, "valve", name)).collect::<Result<_, _>>()?,
+            (key, list) if key.starts_with("at most ") => self.at_most(key, &names(list)?)?,
             (key, list) => {
                 let valve = key.strip_prefix("never on valve ").ok_or_else(|| format!("no rule begins with '{key}:'"))?;
                 let valve = find(&self.valves, "valve", valve)?;
@@ -114,6 +117,35 @@ impl Book {
         for (i, &a) in all.iter().enumerate() {
             all[..i].iter().for_each(|&b| self.apart(a, b, &[]));
         }
+        Ok(())
+    }
+
+    /// At most so many of the materials are on this head. A material is on one valve, so it is its places on the head that are counted.
+    fn at_most(&mut self, key: &str, names: &[String]) -> Result<(), String> {
+        let number = key.strip_prefix("at most ").and_then(|rest| rest.strip_suffix(" on this head"));
+        let k: u32 = number.and_then(|word| word.parse().ok()).ok_or("a rule that counts reads 'at most 3 on this head: A, B, C, D'")?;
+        if self.head.is_empty() {
+            return Err("'this head' wants a line 'head: 1, 2, 3' before it, with the head's valves".into());
+        }
+        let all = names.iter().map(|name| self.material(name)).collect::<Result<Vec<_>, _>>()?;
+        let places: Vec<u32> = all.iter().flat_map(|&m| self.head.iter().map(move |&v| (m, v))).map(|(m, v)| self.on(m, v)).collect();
+        let (first, n) = (self.vars(), places.len());
+        let helpers = if (k as usize) < n { (n - 1) * k as usize } else { 0 };
+        if n > 64 {
+            return Err(format!("{} materials on {} valves are {n} places, and 64 can be counted", all.len(), self.head.len()));
+        }
+        if first + helpers > VARS {
+            return Err(TOO_LARGE.into());
+        }
+        let mut cells = vec![0; engine::at_most_len(n as u32, k) as usize];
+        engine::at_most((first + helpers) as u32, &places, k, first as u32, &mut cells).expect("places of their own, and new helpers");
+        let mut at = 0;
+        while at < cells.len() {
+            at += 2 + cells[at + 1] as usize;
+            self.clauses += 1;
+        }
+        self.records.extend(cells);
+        self.selectors += helpers;
         Ok(())
     }
 

@@ -1,3 +1,4 @@
 pub mod Answering
 pub mod Numbers
 pub mod Runs
+pub mod AtMost

@@ -2,7 +2,9 @@
 ghost use mathlib.Core.Path.{_≡_};
 ghost use Rattle.model.specs.Script.{work-needed};
 ghost use Rattle.script.specs.Needs.{sized, out-len-of};
+ghost use Rattle.counter.specs.Writing.{len-of};
 ghost use Rattle.engine.specs.Runs.{Runs, Gives};
+ghost use Rattle.engine.specs.AtMost.{Gives-at-most};
 use script::Judgement;
 
 // What a run comes to: the out cells written, or a refusal's number and place.
@@ -66,4 +68,40 @@ pub extern "C" fn engine_out_len(script: &[u32]) -> u64
     ensures { λ r. ⌜ r ≡ out-len-of (now (script .entry)) ⌝ }
 {
     script::out_len(script)
+}
+
+// The clauses that say 'at most k of these literals', as records, for C and Rust: refusal is 0 and the answer the cells written, or they are a refusal's number and place.
+#[no_mangle]
+pub extern "C" fn engine_at_most(
+    v: u32,
+    literals: &[u32],
+    k: u32,
+    first_helper: u32,
+    out: &mut [u32],
+    refusal: &mut u32,
+) -> u64
+    ensures { λ r. ⌜ Gives-at-most v (now (literals .entry)) k «first_helper» (now (out .entry)) (now (refusal .exit)) r (now (out .exit)) ⌝ }
+{
+    let a = counter::at_most(v, literals, k, first_helper, out);
+    match a {
+        counter::Answer::Refused {
+            number: why,
+            place: at,
+        } => {
+            *refusal = why;
+            at
+        }
+        counter::Answer::Written { cells: n } => {
+            *refusal = 0;
+            n
+        }
+    }
+}
+
+// The cells that the clauses for n literals take; 0 for more literals than a call may have.
+#[no_mangle]
+pub extern "C" fn engine_at_most_len(n: u32, k: u32) -> u64
+    ensures { λ r. ⌜ r ≡ len-of n k ⌝ }
+{
+    counter::len(n, k)
 }

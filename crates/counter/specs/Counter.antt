@@ -10,6 +10,14 @@ use Rattle.model.specs.Script.{clause-kind, Row, row}
 use Rattle.model.specs.Book.{all, any, in-range-of}
 use Rattle.model.specs.Run.{Answer, turned-back, ran}
 
+-- the literals of a call are 1 to this
+abbrev pub max-count : ℕ
+max-count = 64
+
+-- and need no more helpers than this
+abbrev pub max-helpers : ℕ
+max-helpers = 4096
+
 -- ---- the clauses
 
 -- Column j, from 0, of a row of helpers that begins with variable `base`, as a literal: 'j + 1 or more of the literals so far are true'.
@@ -23,6 +31,10 @@ columns x base next j (suc m) =
     (neg x ∷ neg (helper base j) ∷ helper next (suc j) ∷ [])
     ∷ (neg (helper base (suc j)) ∷ helper next (suc j) ∷ [])
     ∷ columns x base next (suc j) m
+
+-- the two clauses of column j + 1
+abbrev pub pair : ℕ → ℕ → ℕ → ℕ → List (List ℕ)
+pair x base next j = (neg x ∷ neg (helper base j) ∷ helper next (j + 1) ∷ []) ∷ (neg (helper base (j + 1)) ∷ helper next (j + 1) ∷ []) ∷ []
 
 -- with k of the literals before it true, x is false
 unfoldable pub stop : ℕ → ℕ → ℕ → List ℕ
@@ -71,10 +83,15 @@ unfoldable pub cells : List (List ℕ) → List ℕ
 cells [] = []
 cells (c ∷ cs) = clause-kind ∷ length c ∷ (c ++ cells cs)
 
--- ---- what is turned back
+-- how many they are, of n literals
+unfoldable pub needed : ℕ → ℕ → ℕ
+needed k n = elim (eqb k 0) [ true ↦ 3 * n | false ↦ elim (ltb k n) [ true ↦ 8 + 3 * (k - 1) + (n - 2) * (9 * k + 3) | false ↦ 0 ] ]
 
-abbrev pub max-count : ℕ
-max-count = 64
+-- 0 for more literals than a call may have
+unfoldable pub len-of : ℕ → ℕ → ℕ
+len-of n k = elim (leb n max-count) [ true ↦ needed k n | false ↦ 0 ]
+
+-- ---- what is turned back
 
 -- a literal's variable is named among others
 unfoldable pub named : ℕ → List ℕ → Bool

@@ -20,24 +20,12 @@ use Rattle.script.specs.declared.Judgement.the-variants.{Refused, Accepted}
 use Rattle.script.specs.Judging.{Judged, Hold, done, pass, stop, stop-at}
 use Rattle.script.specs.Sound.{and-right}
 use Rattle.script.specs.Front.{from-one}
-use Rattle.counter.specs.Counter.{at-most, helpers, cells, max-count, named, distinct, apart, helpers-fit, at-most-rows}
-use Rattle.counter.specs.Writing.{needed, len-of, len-is}
+use Rattle.counter.specs.Counter.{at-most, helpers, cells, max-count, max-helpers, needed, len-of, named, distinct, apart, helpers-fit, at-most-rows}
+use Rattle.counter.specs.Rows.{call-rows, name-rows, room-rows}
+use Rattle.counter.specs.Writing.{len-is}
 use Rattle.counter.specs.Ranges.{helpers-some, helpers-none}
 
 -- ---- the rows in parts
-
-abbrev pub call-rows : ℕ → List ℕ → List Row
-call-rows v ls = row 2 (from-one v Limits.max-variables) 0 ∷ row 18 (from-one (length ls) max-count) 0 ∷ row 18 (all (in-range-of v) ls) 0 ∷ []
-
-abbrev pub name-rows : ℕ → List ℕ → ℕ → ℕ → List Row
-name-rows v ls k first =
-    row 19 (distinct ls) 0
-    ∷ row 19 (all (apart first (helpers k (length ls))) ls) 0
-    ∷ row 19 (helpers-fit v first (helpers k (length ls))) 0
-    ∷ []
-
-abbrev pub room-rows : List ℕ → ℕ → ℕ → ℕ → List Row
-room-rows ls k first room = row 20 (leb (length (cells (at-most k first ls))) room) (length (cells (at-most k first ls))) ∷ []
 
 pub rows-parts : (v : ℕ) (ls : List ℕ) (k first room : ℕ) → at-most-rows v ls k first room ≡ call-rows v ls ++ (name-rows v ls k first ++ room-rows ls k first room)
 unfolding at-most-rows
@@ -62,16 +50,16 @@ module _ (ls : List ℕ) (k first room need : ℕ) (few : length ls ≤ max-coun
 small-product : (a b m n : ℕ) → a ≤ m → b ≤ n → a * b ≤ m * n
 small-product a b m n h g = le-trans (mul-le-mul-left a g) (mul-le-mul-right n h)
 
-pub product-small : (k n : ℕ) → k < n → n ≤ max-count → (n - 1) * k ≤ 4096
-product-small k n h g = small-product (n - 1) k 64 64 (omega arith) (omega arith)
+pub product-small : (k n : ℕ) → k < n → n ≤ max-count → (n - 1) * k ≤ max-helpers
+product-small k n h g = small-product (n - 1) k max-count max-count (omega arith) (omega arith)
 
-pub helpers-small : (k n : ℕ) → n ≤ max-count → helpers k n ≤ 4096
+pub helpers-small : (k n : ℕ) → n ≤ max-count → helpers k n ≤ max-helpers
 helpers-small k n g = split (less? k n)
     (λ h. omega (arith, helpers-some k n h, product-small k n h g))
     (λ h. omega (arith, helpers-none k n h))
 
 pub rows-small : (k n : ℕ) → k < n → n ≤ max-count → (n - 2) * (9 * k + 3) ≤ 65536
-rows-small k n h g = small-product (n - 2) (9 * k + 3) 64 1024 (omega arith) (omega arith)
+rows-small k n h g = small-product (n - 2) (9 * k + 3) max-count 1024 (omega arith) (omega arith)
 
 module _ (n k : ℕ) where
   pub len-many : max-count < n → 0 ≡ len-of n k

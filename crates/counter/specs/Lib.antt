@@ -4,6 +4,7 @@ pub mod Says
 pub mod Extend
 pub mod Ranges
 pub mod Theorem
+pub mod Rows
 pub mod Reads
 pub mod Writing
 pub mod Judge

@@ -12,7 +12,7 @@ use lib.Dec.{eqb, ltb, leb}
 use borrow.Author.Tests.{lt-ltb, le-ltb, eq-eqb, ne-eqb, le-leb, lt-leb}
 use Rattle.model.specs.Lit.{neg}
 use Rattle.lawbase.specs.Basics.{split, same?, less?}
-use Rattle.counter.specs.Counter.{helper, columns, stop, next-row, rows, zeros, counter, negations, at-most, cells, max-count}
+use Rattle.counter.specs.Counter.{helper, columns, stop, next-row, rows, zeros, counter, negations, at-most, cells, max-count, needed, len-of, pair}
 use Rattle.counter.specs.Wrote.{Wrote, Fits, Left, left-all, left-step, length-cells, cells-one}
 
 -- ---- a clause that is next
@@ -65,10 +65,6 @@ zeros-next base k j h = ap (zeros base j) (less-one k j h) ∙ ap (λ (i : ℕ).
 pub zeros-end : (base k j : ℕ) → k ≤ j + 1 → zeros base j (k - 1 - j) ≡ []
 unfolding zeros
 zeros-end base k j h = ap (zeros base j) (less-none k j h)
-
--- the two clauses of column j + 1
-abbrev pub pair : ℕ → ℕ → ℕ → ℕ → List (List ℕ)
-pair x base next j = (neg x ∷ neg (helper base j) ∷ helper next (j + 1) ∷ []) ∷ (neg (helper base (j + 1)) ∷ helper next (j + 1) ∷ []) ∷ []
 
 pub pair-room : (at n x base next j : ℕ) → Fits at (pair x base next j) n → at + 9 ≤ n
 pair-room at n x base next j h =
@@ -152,13 +148,6 @@ module _ (k x base : ℕ) (out : List ℕ) (at : ℕ) (fits : Fits at (next-row 
       (subst (λ (z : ℕ). Wrote o t ((neg (helper base 0) ∷ z ∷ []) ∷ []) o′ t′) e (subst (λ (z : ℕ). Wrote o t ((neg z ∷ h ∷ []) ∷ []) o′ t′) d w))
 
 -- ---- how many cells
-
-unfoldable pub needed : ℕ → ℕ → ℕ
-needed k n = elim (eqb k 0) [ true ↦ 3 * n | false ↦ elim (ltb k n) [ true ↦ 8 + 3 * (k - 1) + (n - 2) * (9 * k + 3) | false ↦ 0 ] ]
-
--- 0 for more literals than a call may have
-unfoldable pub len-of : ℕ → ℕ → ℕ
-len-of n k = elim (leb n max-count) [ true ↦ needed k n | false ↦ 0 ]
 
 cells-more : (c : List ℕ) (cs : List (List ℕ)) → length (cells (c ∷ cs)) ≡ 2 + length c + length (cells cs)
 cells-more c cs = omega (arith, length-cells (c ∷ []) cs, ap length (cells-one c))

@@ -5,9 +5,8 @@ ghost use Prim.Native.Nat.{_+_, _*_, _-_, _≤_, _<_};
 ghost use lib.ListN.{length, drop};
 ghost use Rattle.model.specs.Lit.{neg};
 ghost use Rattle.model.specs.Limits.{max-variables};
-ghost use Rattle.counter.specs.Counter.{helper, columns, stop, next-row, rows, zeros, counter, negations};
+ghost use Rattle.counter.specs.Counter.{helper, columns, pair, stop, next-row, rows, zeros, counter, negations};
 ghost use Rattle.counter.specs.Wrote.{Wrote, Fits};
-ghost use Rattle.counter.specs.Writing.{pair};
 use clause::Lit;
 
 // A clause as a record of kind 1; returns the place behind it.

@@ -6,11 +6,13 @@ ghost use lib.ListN.{length, drop, getD};
 ghost use Rattle.model.specs.Book.{all, in-range-of};
 ghost use Rattle.script.specs.Judging.{Judged};
 ghost use Rattle.script.specs.Front.{from-one};
-ghost use Rattle.counter.specs.Counter.{helpers, max-count, named, distinct, apart, helpers-fit, at-most-rows};
-ghost use Rattle.counter.specs.Judge.{call-rows, name-rows, room-rows};
+ghost use Rattle.counter.specs.Counter.{helpers, max-count, max-helpers, named, distinct, apart, helpers-fit, at-most-rows};
+ghost use Rattle.counter.specs.Rows.{call-rows, name-rows, room-rows};
+use crate::MAX_COUNT;
 use crate::len;
 use crate::wide;
 use script::Judgement;
+use script::MAX_VARIABLES;
 
 fn from_one(x: u64, high: u64) -> bool
     ensures { λ r. ⌜ r ≡ from-one x high ⌝ }
@@ -79,7 +81,7 @@ fn helpers(k: u32, n: u64) -> u64
 
 // The literal's variable is none of the `used` helpers from first on.
 fn is_apart(first: u64, used: u64, l: u32) -> bool
-    requires { ⌜ (first < 4294967296) × (used ≤ 4096) ⌝ }
+    requires { ⌜ (first < 4294967296) × (used ≤ max-helpers) ⌝ }
     ensures { λ r. ⌜ r ≡ apart first used l ⌝ }
 {
     let x = wide(l / 2);
@@ -90,7 +92,7 @@ fn is_apart(first: u64, used: u64, l: u32) -> bool
 }
 
 fn all_apart(first: u64, used: u64, literals: &[u32]) -> bool
-    requires { ⌜ (first < 4294967296) × (used ≤ 4096) ⌝ }
+    requires { ⌜ (first < 4294967296) × (used ≤ max-helpers) ⌝ }
     ensures { λ r. ⌜ r ≡ all (apart first used) (now (literals .entry)) ⌝ }
 {
     let mut i = 0;
@@ -105,7 +107,7 @@ fn all_apart(first: u64, used: u64, literals: &[u32]) -> bool
 
 // The helpers in use, if any, are among v variables.
 fn helpers_fit(v: u64, first: u64, used: u64) -> bool
-    requires { ⌜ (first < 4294967296) × (used ≤ 4096) ⌝ }
+    requires { ⌜ (first < 4294967296) × (used ≤ max-helpers) ⌝ }
     ensures { λ r. ⌜ r ≡ helpers-fit v first used ⌝ }
 {
     if used == 0 {
@@ -118,13 +120,13 @@ fn helpers_fit(v: u64, first: u64, used: u64) -> bool
 fn judge_call(v: u32, literals: &[u32]) -> Judgement
     ensures { λ r. ⌜ Judged r (call-rows v (now (literals .entry))) ⌝ }
 {
-    if !from_one(wide(v), 4096) {
+    if !from_one(wide(v), MAX_VARIABLES as u64) {
         return Judgement::Refused {
             number: 2,
             place: 0,
         };
     }
-    if !from_one(literals.len() as u64, 64) {
+    if !from_one(literals.len() as u64, MAX_COUNT as u64) {
         return Judgement::Refused {
             number: 18,
             place: 0,

@@ -1,15 +1,17 @@
 // 'At most k of these n literals' by Sinz's sequential counter: the clauses written as records of kind 1 into a lent slice.
 ghost use mathlib.Core.Path.{_≡_};
 ghost use lib.ListN.{length};
-ghost use Rattle.counter.specs.Counter.{at-most};
+ghost use Rattle.counter.specs.Counter.{at-most, len-of};
 ghost use Rattle.counter.specs.Wrote.{Wrote};
-ghost use Rattle.counter.specs.Writing.{len-of};
 ghost use Rattle.counter.specs.Answers.{Writable, Writes};
 
 mod clauses;
 mod judge;
 
 use script::Judgement;
+
+// The literals of a call are 1 to this.
+const MAX_COUNT: u32 = 64;
 
 // What a call comes to: the cells written, or a refusal's number and place.
 pub enum Answer {
@@ -27,7 +29,7 @@ fn wide(x: u32) -> u64
 pub fn len(n: u32, k: u32) -> u64
     ensures { λ r. ⌜ r ≡ len-of n k ⌝ }
 {
-    if 64 < n {
+    if MAX_COUNT < n {
         return 0;
     }
     if k == 0 {

@@ -2,7 +2,7 @@
 ghost use mathlib.Core.Path.{_≡_};
 ghost use Rattle.model.specs.Script.{work-needed};
 ghost use Rattle.script.specs.Needs.{sized, out-len-of};
-ghost use Rattle.counter.specs.Writing.{len-of};
+ghost use Rattle.counter.specs.Counter.{len-of};
 ghost use Rattle.engine.specs.Runs.{Runs, Gives};
 ghost use Rattle.engine.specs.AtMost.{Gives-at-most};
 use script::Judgement;

@@ -18,7 +18,7 @@ pub const SOLVE: u32 = 2;
 // The limits of document 01.
 pub const HEADER_CELLS: usize = 6;
 
-const MAX_VARIABLES: u32 = 4096;
+pub const MAX_VARIABLES: u32 = 4096;
 
 const MAX_CLAUSES: u32 = 65535;
 

@@ -2,9 +2,9 @@ use mathlib.Core.Path.{ap}
 use Prim.Native.Nat.{_+_, _-_, _*_, _≤_}
 use native.Mathlib.Omega.{arith}
 use lib.ListN.{length, drop, getD}
-use Rattle.counter.specs.Counter.{columns}
+use Rattle.counter.specs.Counter.{columns, pair}
 use Rattle.counter.specs.Wrote.{Left, left-all, left-step, left-none, fits-first}
-use Rattle.counter.specs.Writing.{pair, left-as, none-less, columns-next, columns-end}
+use Rattle.counter.specs.Writing.{left-as, none-less, columns-next, columns-end}
 use Rattle.counter.proofs.clauses.columns.Statement.{statement}
 use Rattle.counter.proofs.clauses.columns.Tie as tie
 

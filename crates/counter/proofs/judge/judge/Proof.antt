@@ -1,6 +1,7 @@
 use mathlib.Core.List.{_++_}
 use Rattle.script.specs.Judging.{refused-first, second-decides, accepted-hold}
-use Rattle.counter.specs.Judge.{call-rows, name-rows, room-rows, rows-parts, few-of}
+use Rattle.counter.specs.Rows.{call-rows, name-rows, room-rows}
+use Rattle.counter.specs.Judge.{rows-parts, few-of}
 use borrow.Author.Needs.{needs}
 use Rattle.counter.proofs.judge.judge.Statement.{statement}
 use Rattle.counter.proofs.judge.judge.Tie as tie

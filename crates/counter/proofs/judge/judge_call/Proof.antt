@@ -8,11 +8,17 @@ use Rattle.counter.proofs.judge.judge_call.Tie as tie
 wide-requires : tie.Need-wide-requires
 wide-requires c κs = search needs
 
+cast-from-one : tie.Need-cast-from-one
+cast-from-one c = search needs
+
 from-one-requires : tie.Need-from-one-requires
 from-one-requires c κs = search needs
 
 returns : tie.Need-returns
 returns c = stop (sym (rw (c .before .before .wide .ensures) at (c .before .from-one .ensures)) ∙ not-true _ (c .if1 .taken))
+
+cast-from-one-2 : tie.Need-cast-from-one-2
+cast-from-one-2 c = search needs
 
 from-one-requires-2 : tie.Need-from-one-requires-2
 from-one-requires-2 c κs = search needs
@@ -38,8 +44,10 @@ judge-call-spec =
     tie.close
     (tie.spec
     wide-requires
+    cast-from-one
     from-one-requires
     returns
+    cast-from-one-2
     from-one-requires-2
     returns-2
     in-range-requires

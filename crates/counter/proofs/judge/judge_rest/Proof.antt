@@ -1,5 +1,5 @@
 use Rattle.script.specs.Judging.{refused-first, second-decides}
-use Rattle.counter.specs.Judge.{name-rows, room-rows}
+use Rattle.counter.specs.Rows.{name-rows, room-rows}
 use borrow.Author.Needs.{needs}
 use Rattle.counter.proofs.judge.judge_rest.Statement.{statement}
 use Rattle.counter.proofs.judge.judge_rest.Tie as tie

@@ -47,7 +47,7 @@ shown-length (suc k) n h = go (λ l. shown-length k (n / 10) l) (decLt n 10)
         let s = length-append (shown (n / 10)) ((48 + n % 10) ∷ []) in
         omega (arith, ap length (shown-more n (omega arith)), s, ih (omega (arith, pow-suc 10 (suc k))))
 
-number-length : (n : ℕ) → n ≤ 4294967296 → length (shown n) ≤ 10
+pub number-length : (n : ℕ) → n ≤ 4294967296 → length (shown n) ≤ 10
 number-length n h = shown-length 9 n (omega arith)
 
 literal-length : (l : ℕ) → l / 2 + 1 ≤ 4294967296 → length (shown-literal l) ≤ 11
@@ -83,11 +83,11 @@ listed-length answer i (x ∷ xs) s h =
     let r = listed-length answer (i + 1) xs (λ k. s (suc k)) (omega arith) in
     omega arith
 
-numbered-length : (key : List ℕ) (n : ℕ) → n ≤ max-number → length (numbered key n) ≤ length key + 11
+pub numbered-length : (key : List ℕ) (n : ℕ) → n ≤ max-number → length (numbered key n) ≤ length key + 11
 unfolding numbered
 numbered-length key n h = omega (arith, length-append (key ++ shown n) (10 ∷ []), length-append key (shown n), number-length n (omega arith))
 
-verdict-length : (answer : ℕ) → length (verdict answer) ≤ 13
+pub verdict-length : (answer : ℕ) → length (verdict answer) ≤ 13
 verdict-length answer = go (ℕ-discrete answer 0) (ℕ-discrete answer 1)
   where
     go : Dec (answer ≡ 0) → Dec (answer ≡ 1) → length (verdict answer) ≤ 13

@@ -411,7 +411,7 @@ fn put(text: &mut [u8], at: usize, b: u8) -> usize
     at
 }
 
-fn put_bytes(text: &mut [u8], at: usize, bytes: &[u8]) -> usize
+pub fn put_bytes(text: &mut [u8], at: usize, bytes: &[u8]) -> usize
     requires { ⌜ at ≤ length (now text) ⌝ }
     ensures { λ r. ⌜ Written (now (text .entry)) at (now (bytes .entry)) (now (text .exit)) r ⌝ }
 {
@@ -425,7 +425,7 @@ fn put_bytes(text: &mut [u8], at: usize, bytes: &[u8]) -> usize
 }
 
 // A number in decimal.
-fn put_number(text: &mut [u8], at: usize, n: u64) -> usize
+pub fn put_number(text: &mut [u8], at: usize, n: u64) -> usize
     requires { ⌜ at ≤ length (now text) ⌝ }
     ensures { λ r. ⌜ Written (now (text .entry)) at (shown n) (now (text .exit)) r ⌝ }
 {
@@ -449,7 +449,7 @@ fn put_literal(text: &mut [u8], at: usize, l: u64) -> usize
 }
 
 // A key and a number on a line.
-fn put_numbered(text: &mut [u8], at: usize, key: &[u8], n: u64) -> usize
+pub fn put_numbered(text: &mut [u8], at: usize, key: &[u8], n: u64) -> usize
     requires { ⌜ at ≤ length (now text) ⌝ }
     ensures { λ r. ⌜ Written (now (text .entry)) at (numbered (now (key .entry)) n) (now (text .exit)) r ⌝ }
 {
@@ -506,7 +506,7 @@ fn put_items(text: &mut [u8], at: usize, answer: u32, cells: &[u32]) -> usize
     k
 }
 
-fn put_verdict(text: &mut [u8], at: usize, answer: u32) -> usize
+pub fn put_verdict(text: &mut [u8], at: usize, answer: u32) -> usize
     requires { ⌜ at ≤ length (now text) ⌝ }
     ensures { λ r. ⌜ Written (now (text .entry)) at (verdict answer) (now (text .exit)) r ⌝ }
 {

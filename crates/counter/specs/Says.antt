@@ -72,6 +72,10 @@ module _ (ρ : ℕ → ℕ) where
         (λ ne. columns-in x base next (suc j) m (λ c i. h c (there (there i))) t (omega arith) (omega arith))
 
     module _ (x base : ℕ) (h : Models ρ (next-row k x base)) where
+      stops : Sat ρ (stop k x base)
+      unfolding next-row
+      stops = h (stop k x base) (there (there (in-right (columns x base (base + k) 0 (k - 1)) (here refl))))
+
       opens : Sat ρ (neg x ∷ helper (base + k) 0 ∷ [])
       unfolding next-row
       opens = h (neg x ∷ helper (base + k) 0 ∷ []) (here refl)
@@ -84,10 +88,6 @@ module _ (ρ : ℕ → ℕ) where
           → Sat ρ (neg x ∷ neg (helper base t) ∷ helper (base + k) (suc t) ∷ []) × Sat ρ (neg (helper base (suc t)) ∷ helper (base + k) (suc t) ∷ [])
       unfolding next-row
       column t l = columns-in x base (base + k) 0 (k - 1) (λ c i. h c (there (there (in-left (stop k x base ∷ []) i)))) t (omega arith) (omega arith)
-
-      stops : Sat ρ (stop k x base)
-      unfolding next-row
-      stops = h (stop k x base) (there (there (in-right (columns x base (base + k) 0 (k - 1)) (here refl))))
 
       up-false : (p : ℕ) → Up base p → Up (base + k) p
       up-false p u zero l m = two (neg (helper base 0)) (helper (base + k) 0) carries (false-neg (helper base 0) (u 0 l m))

@@ -33,7 +33,7 @@ enum engine_refusal {
     ENGINE_BAD_RECORD = 7,       /* a record's first cell is not 1 or 2; place: its cell */
     ENGINE_CUT_RECORD = 8,       /* a record runs past the script; place: the script's length */
     ENGINE_BAD_LITERAL = 9,      /* a literal is 2 V or more; place: its cell */
-    ENGINE_BAD_COUNT = 10,       /* a count is over 2 V; place: its cell */
+    ENGINE_BAD_COUNT = 10,       /* a count is over 2 V, or a clause's over 211; place: its cell */
     ENGINE_BAD_BUDGET = 11,      /* a budget is over 1,000,000; place: its cell */
     ENGINE_SHORT_OUT = 12,       /* out has under clauses + solves (V + 4) cells; place: that number, or 4,294,967,295 if it is more */
     /* 13 to 15 are refusals of loadsat's text, which this library does not read. Those below, and 2 before them, are engine_at_most's. */

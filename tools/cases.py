@@ -308,6 +308,7 @@ ROW_7 = "record | 7 | first cell not 1 or 2 | its cell"
 ROW_8 = "record | 8 | record runs past the script | script length"
 ROW_9 = "record | 9 | literal 2×V or more | its cell"
 ROW_10 = "record | 10 | count over 2×V | its cell"
+LONGEST = "a clause count over 211, or over 2×V where that is less, is refusal 10"
 ROW_11 = "record | 11 | budget over 1,000,000 | its cell"
 ROW_12 = "out | 12 | below clauses + solves × (V + 4) | length needed, or 4,294,967,295 if it is more"
 TOP_DOWN = "Order: top to bottom;"
@@ -389,6 +390,43 @@ REFUSALS = [
     ("count-4294967295", ROW_10, "256 2 64", "2 8 64 2 2 100 1 4294967295 0", "refused 10 7"),
     ("count-before-literals", FRONT_BACK, "256 2 64", "2 8 64 2 2 100 1 5 9 9 9 9 9", "refused 10 7"),
     ("count-in-the-second-record", ROW_10, "256 2 64", "2 8 64 2 2 100 2 0 1 1 5", "refused 10 10"),
+    # row 10, the longest clause: V of 105 is the last where 2×V is less
+    ("clause-of-209-of-105-passes", LONGEST, "3552 105 1", "105 8 64 2 2 100 1 209 {209: 0}", "1"),
+    ("clause-of-210-of-105-passes", LONGEST, "3552 105 1", "105 8 64 2 2 100 1 210 {210: 0}", "1"),
+    ("clause-of-211-of-105", LONGEST, "3552 105 1", "105 8 64 2 2 100 1 211 {211: 0}", "refused 10 7"),
+    ("clause-of-212-of-105", LONGEST, "3552 105 1", "105 8 64 2 2 100 1 212 {212: 0}", "refused 10 7"),
+    ("clause-of-210-of-106-passes", LONGEST, "3584 106 1", "106 8 64 2 2 100 1 210 {210: 0}", "1"),
+    ("clause-of-211-of-106-passes", LONGEST, "3584 106 1", "106 8 64 2 2 100 1 211 {211: 0}", "1"),
+    ("clause-of-212-of-106", LONGEST, "3584 106 1", "106 8 64 2 2 100 1 212 {212: 0}", "refused 10 7"),
+    ("clause-of-213-of-106", LONGEST, "3584 106 1", "106 8 64 2 2 100 1 213 {213: 0}", "refused 10 7"),
+    ("clause-of-211-of-128-passes", LONGEST, "4288 128 1", "128 8 64 2 2 100 1 211 {211: 0}", "1"),
+    ("clause-of-212-of-128", LONGEST, "4288 128 1", "128 8 64 2 2 100 1 212 {212: 0}", "refused 10 7"),
+    ("clause-of-255-of-128", LONGEST, "4288 128 1", "128 8 64 2 2 100 1 255 {255: 0}", "refused 10 7"),
+    ("clause-of-256-of-128", LONGEST, "4288 128 1", "128 8 64 2 2 100 1 256 {256: 0}", "refused 10 7"),
+    ("clause-of-257-of-128", LONGEST, "4288 128 1", "128 8 64 2 2 100 1 257 {257: 0}", "refused 10 7"),
+    ("clause-of-210-of-4096-passes", LONGEST, "131136 4096 1", "4096 0 0 2 2 100 1 210 {210: 0}", "1"),
+    ("clause-of-211-of-4096-passes", LONGEST, "131136 4096 1", "4096 0 0 2 2 100 1 211 {211: 0}", "1"),
+    ("clause-of-212-of-4096", LONGEST, "131136 4096 1", "4096 0 0 2 2 100 1 212 {212: 0}", "refused 10 7"),
+    ("clause-of-8191-of-4096", LONGEST, "131136 4096 1", "4096 0 0 2 2 100 1 8191", "refused 10 7"),
+    ("clause-of-8192-of-4096", LONGEST, "131136 4096 1", "4096 0 0 2 2 100 1 8192", "refused 10 7"),
+    ("clause-of-8193-of-4096", LONGEST, "131136 4096 1", "4096 0 0 2 2 100 1 8193", "refused 10 7"),
+    ("assumptions-212-of-106-pass", ROW_10, "3584 106 110", "106 8 64 2 2 100 2 212 {106: 0 1} 1", "1 0 2 0 1"),
+    ("assumptions-213-of-106", ROW_10, "3584 106 110", "106 8 64 2 2 100 2 213 {213: 0} 1", "refused 10 7"),
+    ("assumptions-256-of-128-pass", ROW_10, "4288 128 132", "128 8 64 2 2 100 2 256 {128: 0 1} 1", "1 0 2 0 1"),
+    ("assumptions-257-of-128", ROW_10, "4288 128 132", "128 8 64 2 2 100 2 257 {257: 0} 1", "refused 10 7"),
+    # the same boundary by the count alone: what it allows is missing
+    ("count-210-of-105-allowed", FRONT_BACK, "3552 105 1", "105 8 64 2 2 100 1 210", "refused 8 8"),
+    ("count-211-of-105", FRONT_BACK, "3552 105 1", "105 8 64 2 2 100 1 211", "refused 10 7"),
+    ("count-211-of-106-allowed", FRONT_BACK, "3584 106 1", "106 8 64 2 2 100 1 211", "refused 8 8"),
+    ("count-212-of-106", FRONT_BACK, "3584 106 1", "106 8 64 2 2 100 1 212", "refused 10 7"),
+    ("count-211-of-128-allowed", FRONT_BACK, "4288 128 1", "128 8 64 2 2 100 1 211", "refused 8 8"),
+    ("count-212-of-128", FRONT_BACK, "4288 128 1", "128 8 64 2 2 100 1 212", "refused 10 7"),
+    ("count-211-of-4096-allowed", FRONT_BACK, "131136 4096 1", "4096 0 0 2 2 100 1 211", "refused 8 8"),
+    ("count-212-of-4096", FRONT_BACK, "131136 4096 1", "4096 0 0 2 2 100 1 212", "refused 10 7"),
+    ("assumptions-count-212-of-106-allowed", FRONT_BACK, "3584 106 110", "106 8 64 2 2 100 2 212", "refused 8 8"),
+    ("assumptions-count-213-of-106", FRONT_BACK, "3584 106 110", "106 8 64 2 2 100 2 213", "refused 10 7"),
+    ("count-212-before-literals", FRONT_BACK, "3584 106 1", "106 8 64 2 2 100 1 212 {212: 999}", "refused 10 7"),
+    ("count-212-in-the-second-record", LONGEST, "3584 106 111", "106 8 64 2 2 100 2 0 1 1 212 {212: 0}", "refused 10 10"),
     # row 11
     ("budget-1000001", ROW_11, "256 2 64", "2 8 64 2 2 100 2 0 1000001", "refused 11 8"),
     ("budget-1000000-passes", ROW_11, "256 2 6", "2 8 64 2 2 100 2 0 1000000", "0 0 2 1 1"),

@@ -190,7 +190,8 @@ fn judge(script: &[u32], work: usize, activities: usize, out: usize) -> Option<(
             return Some((8, n as u64));
         }
         let count = script[at + 1];
-        if count as u64 > 2 * vars {
+        let most = if solve == 0 { (2 * vars).min(211) } else { 2 * vars };
+        if count as u64 > most {
             return Some((10, at as u64 + 1));
         }
         let end = at + 2 + count as usize + solve;
@@ -224,7 +225,7 @@ fn refusals(rng: &mut Rng, lent: &mut Lent, count: u64, totals: &mut Totals, by_
             }
             let i = if rng.chance(30) { rng.below(6) } else { rng.below(cells.len() as u32) } as usize % cells.len();
             let v = s.vars;
-            let cell = rng.pick(&[0, 1, 2, 3, 4, 2 * v - 1, 2 * v, 2 * v + 1, 1000, 1001, 4096, 4097, 65535, 65536]);
+            let cell = rng.pick(&[0, 1, 2, 3, 4, 2 * v - 1, 2 * v, 2 * v + 1, 211, 212, 1000, 1001, 4096, 4097, 65535, 65536]);
             match rng.below(6) {
                 0 => cells.truncate(i),
                 1 => cells.insert(i, cell),

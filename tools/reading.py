@@ -52,7 +52,7 @@ def judge(script, work=None, activities=None, out=None):
         if at + 1 == n:
             return 8, n
         count = script[at + 1]
-        if count > 2 * V:
+        if count > (min(211, 2 * V) if kind == 1 else 2 * V):
             return 10, at + 1
         end = at + 2 + count + (kind == 2)
         if end > n:

@@ -390,7 +390,7 @@ def refusals_text():
     return told_text([
         "# Scripts that are turned back, and those just inside the boundary.",
         "# A line: name | lengths of work, activities, out | script cells | refused NUMBER PLACE, or the out cells.",
-        "# {N: cells} stands for the cells N times over. Above them: the row or sentence of document 01.",
+        "# {N: cells} stands for the cells N times over. Above them: the row of document 01, or the sentence of document 01 or 02.",
     ], [(name, sentence, "", lengths + " | " + cells, expected) for name, sentence, lengths, cells, expected in cases.REFUSALS])
 
 

@@ -11,10 +11,12 @@ use lib.Dec.{T, eqb, ltb, leb, ltb→lt, leb→le, eqb→eq}
 use borrow.Author.Tests.{lt-ltb, le-ltb, ne-eqb, eq-eqb, leb-true}
 use Rattle.model.specs.Lit.{var, neg}
 use Rattle.model.specs.Limits as Limits
+use Rattle.model.specs.Script.{clause-kind, most-count}
 use Rattle.model.specs.Book.{all, in-range-of}
 use Rattle.lawbase.specs.Basics.{Every, every-nil, every-cons, every-append, shrink, split, same?, less?, neg-range}
 use Rattle.book.specs.Booleans.{both, all-every}
 use Rattle.script.specs.Judging.{Hold}
+use Rattle.script.specs.Kinds.{count-clause}
 use Rattle.script.specs.Accepted.{LiteralsFit}
 use Rattle.counter.specs.Counter.{helper, columns, stop, next-row, rows, zeros, counter, negations, at-most, helpers, cells, max-count, distinct, apart, helpers-fit, at-most-rows}
 use Rattle.counter.specs.Extend.{Apart}
@@ -95,19 +97,23 @@ helpers-none k n h = rw (le-ltb k n h, helpers)
 module _ (v : ℕ) where
   -- a clause of literals of v variables, as a record of the script may have it
   abbrev Fitting : List (List ℕ) → Type 0
-  Fitting cs = Every (LiteralsFit v) cs
+  Fitting cs = Every (LiteralsFit clause-kind v) cs
 
   abbrev In : ℕ → Type 0
   In l = l < 2 * v
 
-  fit-one : (a : ℕ) → In a → LiteralsFit v (a ∷ [])
-  fit-one a h = record { count = omega arith; literals = every-cons In h (every-nil In) }
+  -- a clause here is short
+  few : (n : ℕ) → n ≤ 3 → n ≤ 2 * v → n ≤ most-count clause-kind v
+  few n h g = omega (arith, h, g, count-clause clause-kind v refl)
 
-  fit-two : (a b : ℕ) → In a → In b → LiteralsFit v (a ∷ b ∷ [])
-  fit-two a b h g = record { count = omega arith; literals = every-cons In h (every-cons In g (every-nil In)) }
+  fit-one : (a : ℕ) → In a → LiteralsFit clause-kind v (a ∷ [])
+  fit-one a h = record { count = few 1 (omega arith) (omega arith); literals = every-cons In h (every-nil In) }
 
-  fit-three : (a b c : ℕ) → 2 ≤ v → In a → In b → In c → LiteralsFit v (a ∷ b ∷ c ∷ [])
-  fit-three a b c m h g i = record { count = omega arith; literals = every-cons In h (every-cons In g (every-cons In i (every-nil In))) }
+  fit-two : (a b : ℕ) → In a → In b → LiteralsFit clause-kind v (a ∷ b ∷ [])
+  fit-two a b h g = record { count = few 2 (omega arith) (omega arith); literals = every-cons In h (every-cons In g (every-nil In)) }
+
+  fit-three : (a b c : ℕ) → 2 ≤ v → In a → In b → In c → LiteralsFit clause-kind v (a ∷ b ∷ c ∷ [])
+  fit-three a b c m h g i = record { count = few 3 (omega arith) (omega arith); literals = every-cons In h (every-cons In g (every-cons In i (every-nil In))) }
 
   helper-in : (base j : ℕ) → base + j < v → In (helper base j)
   unfolding helper
@@ -118,44 +124,44 @@ module _ (v : ℕ) where
 
   negations-fit : (ls : List ℕ) → Every In ls → Fitting (negations ls)
   unfolding negations
-  negations-fit [] h = every-nil (LiteralsFit v)
-  negations-fit (x ∷ xs) h = every-cons (LiteralsFit v) (fit-one (neg x) (neg-range x v (h x (here refl)))) (negations-fit xs (shrink h))
+  negations-fit [] h = every-nil (LiteralsFit clause-kind v)
+  negations-fit (x ∷ xs) h = every-cons (LiteralsFit clause-kind v) (fit-one (neg x) (neg-range x v (h x (here refl)))) (negations-fit xs (shrink h))
 
   module _ (k : ℕ) (some : 1 ≤ k) where
     zeros-fit : (base j m : ℕ) → base + k ≤ v → j + m < k → Fitting (zeros base j m)
     unfolding zeros
-    zeros-fit base j zero b h = every-nil (LiteralsFit v)
+    zeros-fit base j zero b h = every-nil (LiteralsFit clause-kind v)
     zeros-fit base j (suc m) b h =
-        every-cons (LiteralsFit v) (fit-one (neg (helper base (suc j))) (not-helper-in base (suc j) (omega arith))) (zeros-fit base (suc j) m b (omega arith))
+        every-cons (LiteralsFit clause-kind v) (fit-one (neg (helper base (suc j))) (not-helper-in base (suc j) (omega arith))) (zeros-fit base (suc j) m b (omega arith))
 
-    stop-fit : (x base : ℕ) → In x → base + k ≤ v → LiteralsFit v (stop k x base)
+    stop-fit : (x base : ℕ) → In x → base + k ≤ v → LiteralsFit clause-kind v (stop k x base)
     unfolding stop
     stop-fit x base h b = fit-two (neg x) (neg (helper base (k - 1))) (neg-range x v h) (not-helper-in base (k - 1) (omega arith))
 
     columns-fit : (x base j m : ℕ) → In x → base + k + k ≤ v → j + m < k → Fitting (columns x base (base + k) j m)
     unfolding columns
-    columns-fit x base j zero h b l = every-nil (LiteralsFit v)
+    columns-fit x base j zero h b l = every-nil (LiteralsFit clause-kind v)
     columns-fit x base j (suc m) h b l =
-        every-cons (LiteralsFit v)
+        every-cons (LiteralsFit clause-kind v)
         (fit-three (neg x) (neg (helper base j)) (helper (base + k) (suc j)) (omega arith) (neg-range x v h) (not-helper-in base j (omega arith)) (helper-in (base + k) (suc j) (omega arith)))
-        (every-cons (LiteralsFit v)
+        (every-cons (LiteralsFit clause-kind v)
         (fit-two (neg (helper base (suc j))) (helper (base + k) (suc j)) (not-helper-in base (suc j) (omega arith)) (helper-in (base + k) (suc j) (omega arith)))
         (columns-fit x base (suc j) m h b (omega arith)))
 
     row-fit : (x base : ℕ) → In x → base + k + k ≤ v → Fitting (next-row k x base)
     unfolding next-row
     row-fit x base h b =
-        every-cons (LiteralsFit v) (fit-two (neg x) (helper (base + k) 0) (neg-range x v h) (helper-in (base + k) 0 (omega arith)))
-        (every-cons (LiteralsFit v) (fit-two (neg (helper base 0)) (helper (base + k) 0) (not-helper-in base 0 (omega arith)) (helper-in (base + k) 0 (omega arith)))
-        (every-append (LiteralsFit v) (columns x base (base + k) 0 (k - 1)) (columns-fit x base 0 (k - 1) h b (omega arith))
-        (every-cons (LiteralsFit v) (stop-fit x base h (omega arith)) (every-nil (LiteralsFit v)))))
+        every-cons (LiteralsFit clause-kind v) (fit-two (neg x) (helper (base + k) 0) (neg-range x v h) (helper-in (base + k) 0 (omega arith)))
+        (every-cons (LiteralsFit clause-kind v) (fit-two (neg (helper base 0)) (helper (base + k) 0) (not-helper-in base 0 (omega arith)) (helper-in (base + k) 0 (omega arith)))
+        (every-append (LiteralsFit clause-kind v) (columns x base (base + k) 0 (k - 1)) (columns-fit x base 0 (k - 1) h b (omega arith))
+        (every-cons (LiteralsFit clause-kind v) (stop-fit x base h (omega arith)) (every-nil (LiteralsFit clause-kind v)))))
 
     rows-fit : (ys : List ℕ) (base : ℕ) → Every In ys → base + length ys * k ≤ v → Fitting (rows k base ys)
     unfolding rows
-    rows-fit [] base h b = every-nil (LiteralsFit v)
-    rows-fit (x ∷ []) base h b = every-cons (LiteralsFit v) (stop-fit x base (h x (here refl)) (omega (arith, suc-mul 0 k))) (every-nil (LiteralsFit v))
+    rows-fit [] base h b = every-nil (LiteralsFit clause-kind v)
+    rows-fit (x ∷ []) base h b = every-cons (LiteralsFit clause-kind v) (stop-fit x base (h x (here refl)) (omega (arith, suc-mul 0 k))) (every-nil (LiteralsFit clause-kind v))
     rows-fit (x ∷ y ∷ ys) base h b =
-        every-append (LiteralsFit v) (next-row k x base)
+        every-append (LiteralsFit clause-kind v) (next-row k x base)
         (row-fit x base (h x (here refl)) (omega (arith, suc-mul (suc (length ys)) k, suc-mul (length ys) k)))
         (rows-fit (y ∷ ys) (base + k) (shrink h) (omega (arith, suc-mul (suc (length ys)) k)))
 
@@ -164,8 +170,8 @@ module _ (v : ℕ) where
     counter-fit first x y ys h b =
         let n : length (x ∷ y ∷ ys) - 1 ≡ suc (length ys) = omega arith in
         let c : first + suc (length ys) * k ≤ v = subst (λ (m : ℕ). first + m * k ≤ v) n b in
-        every-cons (LiteralsFit v) (fit-two (neg x) (helper first 0) (neg-range x v (h x (here refl))) (helper-in first 0 (omega (arith, c, suc-mul (length ys) k))))
-        (every-append (LiteralsFit v) (zeros first 0 (k - 1)) (zeros-fit first 0 (k - 1) (omega (arith, c, suc-mul (length ys) k)) (omega arith))
+        every-cons (LiteralsFit clause-kind v) (fit-two (neg x) (helper first 0) (neg-range x v (h x (here refl))) (helper-in first 0 (omega (arith, c, suc-mul (length ys) k))))
+        (every-append (LiteralsFit clause-kind v) (zeros first 0 (k - 1)) (zeros-fit first 0 (k - 1) (omega (arith, c, suc-mul (length ys) k)) (omega arith))
         (rows-fit (y ∷ ys) first (shrink h) c))
 
 -- two literals or more, taken apart
@@ -185,11 +191,11 @@ helpers-in v ls k first f some l =
     one-less : (n : ℕ) → 2 ≤ n → n - 1 ≡ suc (n - 2)
     one-less n h = omega arith
 
-pub at-most-fits : (v : ℕ) (ls : List ℕ) (k first : ℕ) → Fit v ls k first → Every (LiteralsFit v) (at-most k first ls)
+pub at-most-fits : (v : ℕ) (ls : List ℕ) (k first : ℕ) → Fit v ls k first → Every (LiteralsFit clause-kind v) (at-most k first ls)
 at-most-fits v ls k first f =
-    at-most-cases (Every (LiteralsFit v)) k first ls
+    at-most-cases (Every (LiteralsFit clause-kind v)) k first ls
     (λ e. negations-fit v ls (f .in-range))
     (λ some l.
-    two-or-more (λ (ls : List ℕ). Every (λ l. l < 2 * v) ls → first + (length ls - 1) * k ≤ v → Every (LiteralsFit v) (counter k first ls)) ls (omega arith)
+    two-or-more (λ (ls : List ℕ). Every (λ l. l < 2 * v) ls → first + (length ls - 1) * k ≤ v → Every (LiteralsFit clause-kind v) (counter k first ls)) ls (omega arith)
     (λ x y ys. counter-fit v k some first x y ys) (f .in-range) (helpers-in v ls k first f some l))
-    (λ l. every-nil (LiteralsFit v))
+    (λ l. every-nil (LiteralsFit clause-kind v))

@@ -1,5 +1,5 @@
 -- The cells are records of kind 1 that a script may have, and read back as the clauses.
-use Prim.Native.Nat.{ℕ, zero, suc, _+_, _-_, _*_, _≤_, _<_}
+use Prim.Native.Nat.{ℕ, zero, suc, _+_, _-_, _*_, _≤_, _<_, min}
 use native.Mathlib.Omega.{arith}
 use mathlib.Core.Path.{_≡_, refl, ap, sym, _∙_, subst}
 use mathlib.Core.Bool.{Bool, true, false}
@@ -8,8 +8,9 @@ use lib.ListN.{length, getD, take, drop, length-append}
 use lib.Seq.{take-append-seam, drop-append-seam, drop-at}
 use lib.Dec.{leb}
 use borrow.Author.Tests.{le-leb, lt-ltb}
+use Rattle.model.specs.Limits as Limits
 use Rattle.model.specs.Limits.{header-cells}
-use Rattle.model.specs.Script.{Record, clause, Row, row, known, lead, most-count, limits, trailing, cost, record-as, kind-of, records, records-of, literal-rows, limit-rows, record-rows, header, work-needed, out-needed, accepted, read}
+use Rattle.model.specs.Script.{Record, clause, clause-kind, Row, row, known, lead, most-count, limits, trailing, cost, record-as, kind-of, records, records-of, literal-rows, limit-rows, record-rows, header, work-needed, out-needed, accepted, read}
 use Rattle.lawbase.specs.Basics.{Every, every-nil, every-cons, shrink}
 use Rattle.script.specs.Judging.{Hold, hold-append}
 use Rattle.script.specs.Walk.{rows-from, records-from}
@@ -56,7 +57,7 @@ unfolding literal-rows
 literals-hold v at [] h = tt
 literals-hold v at (l ∷ ls) h = (lt-ltb l (2 * v) (h l (here refl)), literals-hold v (at + 1) ls (shrink h))
 
-rows-one : (v n t at : ℕ) (c rest : List ℕ) → LiteralsFit v c → Hold (record-rows v n t (at + (2 + length c)) rest)
+rows-one : (v n t at : ℕ) (c rest : List ℕ) → LiteralsFit clause-kind v c → Hold (record-rows v n t (at + (2 + length c)) rest)
     → Hold (record-rows v n (suc t) at (1 ∷ length c ∷ (c ++ rest)))
 unfolding record-rows known lead most-count limits trailing limit-rows
 rows-one v n t at c rest f h =
@@ -67,7 +68,7 @@ rows-one v n t at c rest f h =
       (
         le-leb 1 (length (length c ∷ (c ++ rest))) (omega arith),
         (
-          le-leb (length c) (2 * v) (f .count),
+          le-leb (length c) (min Limits.longest-clause (2 * v)) (f .count),
           (
             le-leb (length c + 0) (length (c ++ rest)) (omega (arith, length-append c rest)),
             hold-append (literal-rows v (at + 2 + 0) (take (length c) (c ++ rest)) ++ []) (record-rows v n t (at + 2 + 0 + (length c + 0)) (drop (length c + 0) (c ++ rest)))
@@ -80,7 +81,7 @@ rows-one v n t at c rest f h =
     )
 
 -- wherever the cells stand in a script of v variables, no row of theirs refuses
-pub rows-cells : (v n t at : ℕ) (cs : List (List ℕ)) (rest : List ℕ) → Every (LiteralsFit v) cs → Hold (record-rows v n t (at + length (cells cs)) rest)
+pub rows-cells : (v n t at : ℕ) (cs : List (List ℕ)) (rest : List ℕ) → Every (LiteralsFit clause-kind v) cs → Hold (record-rows v n t (at + length (cells cs)) rest)
     → Hold (record-rows v n (length cs + t) at (cells cs ++ rest))
 unfolding cells
 rows-cells v n t at [] rest f h =
@@ -123,7 +124,7 @@ unfolding out-needed cost kind-of
 out-of-clauses v [] = refl
 out-of-clauses v (c ∷ cs) = omega (arith, out-of-clauses v cs)
 
-clauses-fit : (v : ℕ) (cs : List (List ℕ)) → Every (LiteralsFit v) cs → Every (RecordFits v) (map clause cs)
+clauses-fit : (v : ℕ) (cs : List (List ℕ)) → Every (LiteralsFit clause-kind v) cs → Every (RecordFits v) (map clause cs)
 clauses-fit v [] f = every-nil (RecordFits v)
 clauses-fit v (c ∷ cs) f = every-cons (RecordFits v) (f c (here refl)) (clauses-fit v cs (shrink f))
 
@@ -146,7 +147,7 @@ module _ (h : List ℕ) (e : length h ≡ header-cells) (cs : List (List ℕ)) w
       ∙ ap (λ (rs : List Record). map clause cs ++ rs) (no-records (length script - length cs))
       ∙ append-nil (map clause cs)
 
-  rows-written : Every (LiteralsFit (header script .variables)) cs → Hold (rows-from (header script .variables) script header-cells)
+  rows-written : Every (LiteralsFit clause-kind (header script .variables)) cs → Hold (rows-from (header script .variables) script header-cells)
   unfolding rows-from
   rows-written f =
       let v = header script .variables in
@@ -156,7 +157,7 @@ module _ (h : List ℕ) (e : length h ≡ header-cells) (cs : List (List ℕ)) w
       (rows-cells v n (n - length cs) header-cells cs [] f (no-rows v n (n - length cs) (header-cells + length (cells cs)))))
 
   -- behind any header that is in order, and with slices that are long enough, a script of these cells is accepted, and its records are these clauses
-  pub written-accepted : HeaderIn script → Every (LiteralsFit (header script .variables)) cs → (work activities out : ℕ) → work-needed (header script) ≤ work → header script .variables ≤ activities
+  pub written-accepted : HeaderIn script → Every (LiteralsFit clause-kind (header script .variables)) cs → (work activities out : ℕ) → work-needed (header script) ≤ work → header script .variables ≤ activities
       → length cs ≤ out → read script work activities out ≡ accepted (header script) (map clause cs)
   written-accepted i f work activities out w a o =
       let v = header script .variables in
@@ -186,5 +187,5 @@ Reads-back v cs =
 
 pub reads-back : (v : ℕ) (ls : List ℕ) (k first : ℕ) → Fit v ls k first → Reads-back v (at-most k first ls)
 reads-back v ls k first f h e i p work activities out w a o =
-    written-accepted h e (at-most k first ls) i (subst (λ (u : ℕ). Every (LiteralsFit u) (at-most k first ls)) (sym p) (at-most-fits v ls k first f)) work activities out w
+    written-accepted h e (at-most k first ls) i (subst (λ (u : ℕ). Every (LiteralsFit clause-kind u) (at-most k first ls)) (sym p) (at-most-fits v ls k first f)) work activities out w
     (omega (arith, p, a)) o

@@ -8,6 +8,7 @@ use mathlib.Core.List.{List, [], _∷_, List·Memᴰ·head as here, List·Memᴰ
 use lib.ListN.{length, getD}
 use lib.Dec.{T, eqb}
 use Rattle.model.specs.Lit.{var, sign}
+use Rattle.model.specs.Script.{clause-kind}
 use Rattle.model.specs.Book.{holds, is-row, is-model}
 use Rattle.lawbase.specs.Basics.{Every, every-nil, every-cons, shrink, split, on?, var-range}
 use Rattle.lawbase.specs.WellFormed.{bit}
@@ -86,7 +87,7 @@ listed-sat ρ v l h =
     none : (x : ℕ) → 0 + x ≡ x
     none x = omega arith
 
-listed-models : (ρ : ℕ → ℕ) (v : ℕ) (cs : List (List ℕ)) → Every (LiteralsFit v) cs → Models ρ cs → Models (row-of (listed ρ 0 v)) cs
+listed-models : (ρ : ℕ → ℕ) (v : ℕ) (cs : List (List ℕ)) → Every (LiteralsFit clause-kind v) cs → Models ρ cs → Models (row-of (listed ρ 0 v)) cs
 listed-models ρ v cs f m c i =
     let k = m c i in
     (k .0, k .1, listed-sat ρ v (k .0) (f c i .literals (k .0) (k .1)) ∙ k .2)
@@ -118,7 +119,7 @@ module _ (v : ℕ) (ls : List ℕ) (k first : ℕ) (f : Fit v ls k first) where
     pub same : (x : ℕ) → x < v → Apart first (helpers k (length ls)) x → getD row′ x 2 ≡ getD row x 2
     pub model : T (is-model row′ (at-most k first ls))
 
-  itself : (row : List ℕ) → T (is-row v row) → (cs : List (List ℕ)) → Every (LiteralsFit v) cs → Models (row-of row) cs → at-most k first ls ≡ cs → Extended row row
+  itself : (row : List ℕ) → T (is-row v row) → (cs : List (List ℕ)) → Every (LiteralsFit clause-kind v) cs → Models (row-of row) cs → at-most k first ls ≡ cs → Extended row row
   itself row h cs g m e =
       record {
         is = h;
@@ -139,7 +140,7 @@ module _ (v : ℕ) (ls : List ℕ) (k first : ℕ) (f : Fit v ls k first) where
       two-or-more
       (λ (ls : List ℕ). Every (λ l. Apart first ((length ls - 1) * k) (var l)) ls → trues ρ ls ≤ k → Models (extend k first ρ ls) (counter k first ls))
       ls (omega arith) (λ x y ys. extends k some first ρ (row-small v row h) x y ys) apart le′ in
-      let g : Every (LiteralsFit v) (counter k first ls) = subst (Every (LiteralsFit v)) e (at-most-fits v ls k first f) in
+      let g : Every (LiteralsFit clause-kind v) (counter k first ls) = subst (Every (LiteralsFit clause-kind v)) e (at-most-fits v ls k first f) in
       record {
         is = small-row v (listed ρ′ 0 v) (listed-length ρ′ 0 v) (listed-small ρ′ r′ 0 v);
         same = λ x b a.
@@ -159,7 +160,7 @@ module _ (v : ℕ) (ls : List ℕ) (k first : ℕ) (f : Fit v ls k first) where
 
   pub extended : (row : List ℕ) → T (is-row v row) → true-in row ls ≤ k → (row′ : List ℕ) × Extended row row′
   extended row h le =
-      at-most-cases (λ (cs : List (List ℕ)). at-most k first ls ≡ cs → Every (LiteralsFit v) cs → (row′ : List ℕ) × Extended row row′) k first ls
+      at-most-cases (λ (cs : List (List ℕ)). at-most k first ls ≡ cs → Every (LiteralsFit clause-kind v) cs → (row′ : List ℕ) × Extended row row′) k first ls
       (λ z e g.
       (row, itself row h (negations ls) g (none-negations (row-of row) (row-small v row h) ls (omega (arith, le, true-in-trues v row ls (row-length v row h) (f .in-range)))) e))
       (λ some l e g. (listed (extend k first (row-of row) ls) 0 v, by-helpers row h some l le e))

@@ -16,6 +16,10 @@ max-clauses = 65535
 abbrev pub max-literals : ℕ
 max-literals = 1048576
 
+-- a clause of a script has at most this many literals; a learnt clause may have more
+abbrev pub longest-clause : ℕ
+longest-clause = 211
+
 -- `ccmin_mode` and `phase_saving` are 0 to these, `restart_first` is 1 to this
 abbrev pub max-mode : ℕ
 max-mode = 2

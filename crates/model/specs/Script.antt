@@ -42,9 +42,9 @@ known kind = eqb kind clause-kind || eqb kind solve-kind
 unfoldable pub lead : ℕ → ℕ
 lead kind = 0
 
--- the largest count, of v variables
+-- the largest count, of v variables: all their literals, but for a clause, which has a limit of its own too
 unfoldable pub most-count : ℕ → ℕ → ℕ
-most-count kind v = 2 * v
+most-count kind v = elim (eqb kind clause-kind) [ true ↦ min Limits.longest-clause (2 * v) | false ↦ 2 * v ]
 
 -- the largest number that each cell behind the literals may hold: a solve has a budget there
 unfoldable pub limits : ℕ → List ℕ

@@ -8,25 +8,25 @@ use lib.ListN.{length, getD, drop, length-take}
 use borrow.Author.Tests.{leb-true, le-leb}
 use Rattle.model.specs.Limits as Limits
 use Rattle.model.specs.Limits.{header-cells}
-use Rattle.model.specs.Script.{Config, Record, clause, solve, known, limits, record-as, refused, accepted, header, header-rows, slice-rows, out-rows, records-of, out-needed, work-needed, read}
+use Rattle.model.specs.Script.{Config, Record, clause, solve, clause-kind, solve-kind, known, most-count, limits, record-as, refused, accepted, header, header-rows, slice-rows, out-rows, records-of, out-needed, work-needed, read}
 use Rattle.lawbase.specs.Basics.{Every, every-nil, every-cons}
 use Rattle.script.specs.declared.Judgement.{Judgement}
 use Rattle.script.specs.declared.Judgement.the-variants as J
 use Rattle.script.specs.Judging.{reading-of, Hold, hold-append, hold-left, hold-right, hold-judge, judge-hold}
 use Rattle.script.specs.Walk.{kind-at, count-at, first-at, lead-at, literals-at, behind-at, record-at, records-from, records-step, records-end, rows-from, walk-induction}
-use Rattle.script.specs.Kinds.{kind-cases, most-count-le}
+use Rattle.script.specs.Kinds.{kind-cases}
 use Rattle.script.specs.Sound.{RecordIn, Readable, readable-here, readable-next}
 use Rattle.script.specs.Needs.{front-rows, back-rows}
 use Rattle.script.specs.Front.{from-one, HeaderIn, header-in, read-parts}
 
--- the literals of a record of v variables
-pub record LiteralsFit (v : ℕ) (ls : List ℕ) : Type 0 where
-  pub count : length ls ≤ 2 * v
+-- the literals of a record of that kind, of v variables
+pub record LiteralsFit (kind v : ℕ) (ls : List ℕ) : Type 0 where
+  pub count : length ls ≤ most-count kind v
   pub literals : Every (λ l. l < 2 * v) ls
 
 abbrev pub RecordFits : ℕ → Record → Type 0
-RecordFits v (clause ls) = LiteralsFit v ls
-RecordFits v (solve ls budget) = LiteralsFit v ls × (budget ≤ Limits.max-budget)
+RecordFits v (clause ls) = LiteralsFit clause-kind v ls
+RecordFits v (solve ls budget) = LiteralsFit solve-kind v ls × (budget ≤ Limits.max-budget)
 
 -- a script that may run with work, activities and out of these lengths
 pub record Accepted (s : List ℕ) (work activities out : ℕ) : Type 0 where
@@ -39,17 +39,17 @@ pub record Accepted (s : List ℕ) (work activities out : ℕ) : Type 0 where
   pub records-fit : Every (RecordFits (header s .variables)) (records-of s)
   pub out-fits : out-needed (header s .variables) (records-of s) ≤ out
 
-as-fits : (v kind : ℕ) (before ls behind : List ℕ) → known kind ≡ true → LiteralsFit v ls → ((i : ℕ) → getD behind i 0 ≤ getD (limits kind) i 0)
+as-fits : (v kind : ℕ) (before ls behind : List ℕ) → known kind ≡ true → LiteralsFit kind v ls → ((i : ℕ) → getD behind i 0 ≤ getD (limits kind) i 0)
     → RecordFits v (record-as kind before ls behind)
 unfolding record-as limits
-as-fits v kind before ls behind k f =
-    kind-cases (λ x. ((i : ℕ) → getD behind i 0 ≤ getD (limits x) i 0) → RecordFits v (record-as x before ls behind)) (λ h. f) (λ h. (f, h 0)) kind k
+as-fits v kind before ls behind k =
+    kind-cases (λ x. LiteralsFit x v ls → ((i : ℕ) → getD behind i 0 ≤ getD (limits x) i 0) → RecordFits v (record-as x before ls behind)) (λ f h. f) (λ f h. (f, h 0)) kind k
 
 record-fits : (v : ℕ) (s : List ℕ) (at : ℕ) → RecordIn v s at → RecordFits v (record-at s at)
 record-fits v s at r =
     let few = length-take (count-at s at) (drop (first-at s at) s) in
-    let fit : LiteralsFit v (literals-at s at) =
-    record { count = omega (arith, few, r .count, most-count-le (kind-at s at) v); literals = r .literals } in
+    let fit : LiteralsFit (kind-at s at) v (literals-at s at) =
+    record { count = omega (arith, few, r .count); literals = r .literals } in
     as-fits v (kind-at s at) (lead-at s at) (literals-at s at) (behind-at s at) (r .kind) fit (r .behind)
 
 pub readable-fits : (v : ℕ) (s : List ℕ) (at : ℕ) → Readable v s at → Every (RecordFits v) (records-from s at)

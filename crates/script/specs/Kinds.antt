@@ -1,5 +1,5 @@
 -- What holds of the kinds of records. Each law here has a case for each kind; the walk over the records goes by these laws.
-use Prim.Native.Nat.{ℕ, _+_, _*_, _≤_, _<_}
+use Prim.Native.Nat.{ℕ, _+_, _*_, _≤_, _<_, min}
 use mathlib.Core.Path.{_≡_, refl, sym, subst}
 use mathlib.Core.Logic.{_⊎_, inl, inr}
 use mathlib.Core.Bool.{Bool, true, false, _||_}
@@ -59,6 +59,16 @@ module _ (kind : ℕ) where
     unfolding record-as
     record-other before literals behind = rw (ne-eqb kind solve-kind e, record-as)
 
+  module _ (v : ℕ) where
+    -- a clause has a limit of its own too, the smaller of the two counts
+    pub count-clause : kind ≡ clause-kind → most-count kind v ≡ min Limits.longest-clause (2 * v)
+    unfolding most-count
+    count-clause e = rw e
+
+    pub count-other : (kind ≡ clause-kind → ⊥) → most-count kind v ≡ 2 * v
+    unfolding most-count
+    count-other e = rw (ne-eqb kind clause-kind e, most-count)
+
   pub trailing-is : trailing kind ≡ length (limits kind)
   unfolding trailing
   trailing-is = refl
@@ -89,5 +99,8 @@ module _ (kind : ℕ) where
       go (no n) = omega (arith, trailing-other n)
 
   pub most-count-le : (v : ℕ) → most-count kind v ≤ 2 * v
-  unfolding most-count
-  most-count-le v = omega arith
+  most-count-le v = go (ℕ-discrete kind clause-kind)
+    where
+      go : Dec (kind ≡ clause-kind) → most-count kind v ≤ 2 * v
+      go (yes e) = omega (arith, count-clause v e)
+      go (no n) = omega (arith, count-other v n)

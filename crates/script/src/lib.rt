@@ -24,6 +24,9 @@ const MAX_CLAUSES: u32 = 65535;
 
 const MAX_LITERALS: u32 = 1048576;
 
+// A clause's count is at most this.
+const LONGEST_CLAUSE: usize = 211;
+
 const MAX_MODE: u32 = 2;
 
 const MAX_PHASE: u32 = 2;
@@ -86,7 +89,14 @@ fn most_count(kind: u32, v: usize) -> usize
     requires { ⌜ v ≤ max-variables ⌝ }
     ensures { λ r. ⌜ r ≡ most-count kind v ⌝ }
 {
-    2 * v
+    let all = 2 * v;
+    if kind != CLAUSE {
+        return all;
+    }
+    if LONGEST_CLAUSE < all {
+        return LONGEST_CLAUSE;
+    }
+    all
 }
 
 // The cells behind the literals.

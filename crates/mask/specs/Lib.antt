@@ -5,3 +5,5 @@ pub mod Bits
 pub mod Full
 pub mod Back
 pub mod Left
+pub mod Levels
+pub mod Learnt

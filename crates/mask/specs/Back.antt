@@ -154,12 +154,19 @@ module _ (n : ℕ) (st : Store) (vs : VarState) (t : List ℕ) (w : Entries n (s
         (λ c. traced-rests z (λ i. true≢false (sym (m l i) ∙ u)) (r l (here refl)) .caused c)
         (λ o. true≢false (sym (lets l (f l (here refl)) z (r l (here refl))) ∙ o))))
 
+    -- a trace comes to its end
+    abbrev pub Ends : Option (List ℕ) → Type 0
+    Ends o = (k : List ℕ) × (o ≡ some k)
+
+    then-ends : {A : Type 0} (o : Option A) (f : A → Option (List ℕ)) {a : A} → o ≡ some a → Ends (f a) → Ends (then o f)
+    then-ends o f e h = rw e h
+
     ok-some : {A : Type 0} (P : A → Type 0) (o : Option A) (a : A) → o ≡ some a → Ok P o → P a
     ok-some P o a e h = subst (Ok P) e h
 
     traces : (turns : ℕ) (stack m : List ℕ) → length m ≡ n → Every (Fit vs t) stack → Every (Rests st vs clause) stack → Marked m
         → length stack + unseen m < turns
-        → (k : List ℕ) × (lit-redundant st vs mask turns (record { stack = stack; seen = m }) ≡ some k)
+        → Ends (lit-redundant st vs mask turns (record { stack = stack; seen = m }))
     unfolding lit-redundant
     traces zero stack m s f r b h = absurd (omega arith)
     traces (suc turns) [] m s f r b h = (m, refl)
@@ -170,11 +177,11 @@ module _ (n : ℕ) (st : Store) (vs : VarState) (t : List ℕ) (w : Entries n (s
         let x = pushes rs i (r q (here refl) .traced) now b (shrink r) in
         let p = ok-some (Pushed n vs t rs now) (push-reason vs mask rs now) (x .0) (x .1) (push-law n st vs t w mask rs i now s) in
         let l = ok-some (λ y. left y ≡ left now) (push-reason vs mask rs now) (x .0) (x .1) (push-left n st vs t w mask rs i now s) in
-        let y = traces turns (x .0 .stack) (x .0 .seen) (p .sized s) (p .fit (shrink f)) (x .2) (λ c j. p .grows (var c) (b c j)) (omega (arith, l)) in
-        (y .0, ap (λ (o : Option Tracing). then o (lit-redundant st vs mask turns)) (x .1) ∙ y .1)
+        then-ends (push-reason vs mask rs now) (lit-redundant st vs mask turns) (x .1)
+        (traces turns (x .0 .stack) (x .0 .seen) (p .sized s) (p .fit (shrink f)) (x .2) (λ c j. p .grows (var c) (b c j)) (omega (arith, l)))
 
     pub redundant : (q : ℕ) (m : List ℕ) → length m ≡ n → Fit vs t q → Marked m → q ∈ clause → Traceable st vs clause q
-        → (k : List ℕ) × (lit-redundant st vs mask (suc (length m)) (record { stack = q ∷ []; seen = m }) ≡ some k)
+        → Ends (lit-redundant st vs mask (suc (length m)) (record { stack = q ∷ []; seen = m }))
     redundant q m s f b i h =
         traces (suc (length m)) (q ∷ []) m s (every-one (Fit vs t) f) (every-one (Rests st vs clause) (traceable-rests (f .above) h)) b
         (omega (arith, unseen-less m (var q) (b q i)))

@@ -1,5 +1,5 @@
 -- Levels along a trace: they do not rise, so that the conflict's level is never met below it; and what is traced to a clause is on a level of it.
-use mathlib.Core.Path.{_≡_, refl, ap, _∙_}
+use mathlib.Core.Path.{_≡_, refl, ap, subst}
 use mathlib.Core.Logic.{_≢_, _↔_}
 use mathlib.Core.List.{List, _∷_, List·Memᴰ·head as here, List·Memᴰ·tail as there}
 use Prim.Native.Nat.{ℕ, _≤_, _<_}
@@ -20,25 +20,29 @@ use Rattle.mask.specs.Back.{traced-more, Stands, stands, Lets}
 module _ (n : ℕ) (st : Store) (vs : VarState) (t : List ℕ) (w : Entries n (st .clauses) vs t) (clause : List ℕ) where
   -- ---- the clause's own mask
 
+  -- a literal of the clause on that level
+  record On-level (k : ℕ) : Type 0 where
+    literal : ℕ
+    member : literal ∈ clause
+    level : level-lit vs literal ≡ k
+
   module _ (tied : Every (Tied (st .clauses) vs) t) where
     -- an implied literal has another one of its level in its reason (`Tied`): so on along the trace, to a literal of the clause
-    level-of-one : (q : ℕ) → neg q ∈ t → 0 < level-lit vs q → Traced st vs (λ r. r ∈ clause) q
-        → (b : ℕ) × (b ∈ clause) × (level-lit vs b ≡ level-lit vs q)
+    level-of-one : (q : ℕ) → neg q ∈ t → 0 < level-lit vs q → Traced st vs (λ r. r ∈ clause) q → On-level (level-lit vs q)
     level-of-one q i z (at-zero e) = absurd (omega arith)
-    level-of-one q i z (at-end b) = (q, b, refl)
+    level-of-one q i z (at-end b) = record { literal = q; member = b; level = refl }
     level-of-one q i z (through c f) =
         let x = tied (neg q) i (rw var-neg c) in
         let j : x .literal ∈ reason-rest st vs q = rw var-neg at (x .member) in
         let e : level-lit vs (x .literal) ≡ level-lit vs q = rw var-neg at (x .level) in
         let k = fit-reason n st vs t w q (record { falsified = i; above = z; caused = c }) (x .literal) j in
-        let y = level-of-one (x .literal) k (omega (arith, e)) (f (x .literal) j) in
-        (y .0, y .1, y .2 ∙ e)
+        subst On-level e (level-of-one (x .literal) k (omega (arith, e)) (f (x .literal) j))
 
     -- so the mask of the clause's levels lets pass what is traced to the clause
     pub own-lets : Lets n st vs t w clause (abstract-levels vs 0 clause)
     own-lets q i z r =
         let x = level-of-one q i z r in
-        own-passes vs clause (x .0) q (x .1) (x .2)
+        own-passes vs clause (x .literal) q (x .member) (x .level)
 
   pub full-lets : Lets n st vs t w clause full
   full-lets q i z r = full-passes vs q
@@ -54,7 +58,7 @@ module _ (n : ℕ) (st : Store) (vs : VarState) (t : List ℕ) (w : Entries n (s
       let d : reason-lit vs (neg q) ≢ no-reason = rw var-neg c in
       let o = caused (s .entry .ground) d .false-rest r k in
       let l = sorted n (st .clauses) vs (neg q) (s .older) (s .entry, s .entries) (neg r) o in
-      (s .on (neg r) o, rw (var-neg, var-neg) at l)
+      (s .on (neg r) o, rw (var-neg r, var-neg q) at l)
 
   module _ (u : ℕ) where
     behind : (r : ℕ) → r ∈ (u ∷ clause) → level-lit vs r < level-lit vs u → r ∈ clause

@@ -2,7 +2,7 @@
 use mathlib.Core.Path.{_≡_, sym, ap, _∙_}
 use mathlib.Core.Bool.{Bool, true, not}
 use mathlib.Core.List.{List, [], _∷_, List·Memᴰ·head as here, List·Memᴰ·tail as there, List·Memᴰ·not-nil as not-nil}
-use Prim.Native.Nat.{ℕ, suc, zero, _/_, _%_, _^_, _≤_, _<_, min}
+use Prim.Native.Nat.{ℕ, suc, zero, _-_, _/_, _%_, _^_, _≤_, _<_, min}
 use native.Mathlib.Omega.{arith}
 use lib.Dec.{eqb}
 use lib.Bits.{bitAnd, bitOr, and-step, or-step, and-zero-l, and-self, and-mask, or-comm}
@@ -43,9 +43,12 @@ bit-some level = power-some (level % 32)
 
 -- ---- the test of the mask
 
--- every bit
+-- how many bits a mask has, and the mask with every bit
+abbrev bits : ℕ
+bits = 32
+
 abbrev pub full : ℕ
-full = 4294967295
+full = 2 ^ bits - 1
 
 module _ (vs : VarState) where
   -- l's level is one of the mask's, as far as the mask tells
@@ -70,10 +73,10 @@ module _ (vs : VarState) where
   levels-in level mask (l ∷ ls) b (there i) e = levels-in level (bitOr mask (abstract-level (level-lit vs l))) ls b i e
 
   -- a literal on the level of a literal of the clause passes the clause's mask
-  pub own-passes : (ls : List ℕ) (b q : ℕ) → b ∈ ls → level-lit vs b ≡ level-lit vs q → passes (abstract-levels vs 0 ls) q ≡ true
-  own-passes ls b q i e = bit-passes (abstract-levels vs 0 ls) q (levels-in (level-lit vs q) 0 ls b i e)
+  pub own-passes : {ls : List ℕ} (b q : ℕ) → b ∈ ls → level-lit vs b ≡ level-lit vs q → passes (abstract-levels vs 0 ls) q ≡ true
+  own-passes {ls} b q i e = bit-passes (abstract-levels vs 0 ls) q (levels-in (level-lit vs q) 0 ls b i e)
 
   pub full-passes : (l : ℕ) → passes full l ≡ true
   full-passes l =
       let k = level-lit vs l % 32 in
-      bit-passes full l (omega (arith, and-mask (2 ^ k) 32, power-some k, power-most k 31 (omega arith)))
+      bit-passes full l (omega (arith, and-mask (2 ^ k) bits, power-some k, power-most k (bits - 1) (omega arith)))

@@ -42,7 +42,7 @@ module _ (n : ℕ) (st : Store) (vs : VarState) (t : List ℕ) (w : Entries n (s
     pub own-lets : Lets n st vs t w clause (abstract-levels vs 0 clause)
     own-lets q i z r =
         let x = level-of-one q i z r in
-        own-passes vs clause (x .literal) q (x .member) (x .level)
+        own-passes vs (x .literal) q (x .member) (x .level)
 
   pub full-lets : Lets n st vs t w clause full
   full-lets q i z r = full-passes vs q

@@ -7,3 +7,4 @@ pub mod Back
 pub mod Left
 pub mod Levels
 pub mod Learnt
+pub mod Examples

@@ -5,9 +5,10 @@
 
 `rt must-fail` tries an edit on one crate, and the definition is in another crate than its laws. This applies an edit of
 crates/model/must-fail to a copy of the repository, leaves out the cases that the definition is tried on, and proves the crates
-that have the laws. Some lemmas only restate a definition, as its cases: they follow the edit (RESTATED), so that what is
-refused is a claim. It prints the claim that no longer holds and the first error; it fails where that is not the claim named
-here. It takes a minute or so for each edit.
+that have the laws. (The wrong masks are no edits there, since no case of crate model shows them: NO_CASE has them.) Some lemmas
+only restate a definition, as its cases: they follow the edit (RESTATED), so that what is refused is a claim. It prints the
+claim that no longer holds and the first error; it fails where that is not the claim named here. It takes a minute or so for
+each edit.
 """
 import os
 import re
@@ -19,7 +20,10 @@ import tempfile
 HERE = os.path.dirname(os.path.abspath(__file__))
 ROOT = os.path.join(HERE, "..")
 CASES = ("Table", "WrongTurns", "Steps")
-LAWS = ["lawbase", "book", "assign", "learning", "watching", "ends", "sound", "script", "laws"]
+LAWS = ["lawbase", "book", "assign", "learning", "watching", "mask", "ends", "sound", "script", "laws"]
+
+# the mask asks for the bit of the literal's level, and of the next variable's
+TWO_LEVELS = "bitAnd (bitAnd (abstract-level (level-lit vs l)) (abstract-level (level-lit vs (Prim.Native.Nat._+_ l 2)))) mask"
 
 # an edit of the definition, and the claim that refuses it: crate, module, declaration
 CLAIMS = {
@@ -30,6 +34,14 @@ CLAIMS = {
     "not_ok_under_assumptions": ("sound", "Solve", "verdict-ready"),
     "watch_not_moved": ("watching", "Lists", "go-watched"),
     "decision_traced_through": ("learning", "Trace", "push-law"),
+    "mask_tested_by_two_levels": ("mask", "Bits", "own-passes"),
+    "mask_one_literal_short": ("mask", "Bits", "levels-in"),
+}
+
+# wrong definitions that are no edit of crates/model/must-fail: file, old text, new text
+NO_CASE = {
+    "mask_tested_by_two_levels": ("model/specs/Minimise.antt", "bitAnd (abstract-level (level-lit vs l)) mask", TWO_LEVELS),
+    "mask_one_literal_short": ("model/specs/Minimise.antt", "abstract-levels vs 0 ls", "abstract-levels vs 0 (lib.ListN.drop 1 ls)"),
 }
 
 # the lemmas that restate the definition's cases, and what is read off them: file, old text (wherever it stands), new text
@@ -87,6 +99,17 @@ RESTATED = {
         ("learning/specs/Trace.antt", "≡ false → reason-lit vs l ≢ no-reason → P", "≡ false → reason-lit vs l ≢ l → P"),
         ("learning/specs/Trace.antt", "(reason-lit vs l) no-reason", "(reason-lit vs l) l"),
     ],
+    "mask_tested_by_two_levels": [
+        ("learning/specs/Trace.antt", "bitAnd (abstract-level (level-lit vs l)) mask", TWO_LEVELS),
+        ("mask/specs/Bits.antt", "bitAnd (abstract-level (level-lit vs l)) mask", TWO_LEVELS),
+    ],
+    "mask_one_literal_short": [
+        ("learning/specs/Minimise.antt", "abstract-levels vs 0 ls", "abstract-levels vs 0 (lib.ListN.drop 1 ls)"),
+        ("mask/specs/Bits.antt", "(abstract-level level) (abstract-levels vs mask ls)", "(abstract-level level) (abstract-levels vs mask (lib.ListN.drop 1 ls))"),
+        ("mask/specs/Bits.antt", "abstract-levels vs 0 ls", "abstract-levels vs 0 (lib.ListN.drop 1 ls)"),
+        ("mask/specs/Levels.antt", "abstract-levels vs 0 clause", "abstract-levels vs 0 (lib.ListN.drop 1 clause)"),
+        ("mask/specs/Learnt.antt", "abstract-levels vs 0 ls", "abstract-levels vs 0 (drop 1 ls)"),
+    ],
 }
 
 
@@ -98,6 +121,16 @@ def replace(name, old, new, once):
 
 
 def apply(crates, label):
+    if label in NO_CASE:
+        name, old, new = NO_CASE[label]
+        replace(os.path.join(crates, name), old, new, True)
+    else:
+        apply_edit(crates, label)
+    for name, old, new in RESTATED.get(label, []):
+        replace(os.path.join(crates, name), old, new, False)
+
+
+def apply_edit(crates, label):
     name = old = None
     for line in open(os.path.join(crates, "model", "must-fail", label + ".edit"), encoding="utf-8"):
         line = line.rstrip("\n")
@@ -107,8 +140,6 @@ def apply(crates, label):
             old = line[5:]
         elif line.startswith("new: "):
             replace(name, old, line[5:], True)
-    for name, old, new in RESTATED.get(label, []):
-        replace(os.path.join(crates, name), old, new, False)
 
 
 def leave_out(specs, modules):

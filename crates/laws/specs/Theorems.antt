@@ -26,6 +26,9 @@ use Rattle.learning.specs.Analyzed.{Analyzed, analyze-law, analyze-rup}
 use Rattle.learning.specs.Final.{FinalClause, final-law}
 use Rattle.watching.specs.Propagate.{Finished, propagate-enough}
 use Rattle.watching.specs.Result.{Rested, Clashed, conflict-two, propagated}
+use Rattle.mask.specs.Unmasked.{analyze-unmasked}
+use Rattle.mask.specs.Traceable.{Keeps}
+use Rattle.mask.specs.Learnt.{same-learnt, keeps}
 use Rattle.ends.specs.Credit.{Ongoing, left-most, credit-most, ongoing-bound}
 use Rattle.ends.specs.Turns.{search-more}
 use Rattle.ends.specs.Rounds.{Final, solve-enough, solve-final}
@@ -222,3 +225,18 @@ pub agreement : (s : List ℕ) (work activities out : ℕ) → Accepted s work a
     → Same-verdict s (run (header s) (records-of s)) s′ (run (header s′) (records-of s′))
 agreement s work activities out a s′ work′ activities′ out′ a′ =
     demand-3 s work activities out a .two-scripts s′ (run (header s′) (records-of s′)) (demand-3 s′ work′ activities′ out′ a′ .answers)
+
+-- ---- 8. The mask of levels in mode 2 never shows, at every conflict of a run above level 0. (At level 0 nothing is learnt.)
+
+module _ (s : List ℕ) (work activities out : ℕ) (a : Accepted s work activities out) (two : header s .mode ≡ 2) {p : Place} {x : Solver} {t : State} {confl : ℕ}
+    (m : Meets s p x t confl) where
+  -- with the mask and without it the same clause is learnt; the run goes back to the same level, with the same activities
+  pub mask-never-shows : analyze (header s) (with-state x t) confl ≡ analyze-unmasked (header s) (with-state x t) confl
+  mask-never-shows =
+      same-learnt (header s) two (with-state x t) confl (conflict s work activities out a m) (clashes s work activities out a m .conflict .tied)
+
+  -- besides the UIP it has exactly those literals of the clause before minimising that cannot be traced through reasons to level 0 and other literals
+  -- of that clause alone
+  pub mask-keeps-exactly : Keeps (t .store) (t .vars) (first-uip (header s) (with-state x t) confl .learnt) (analyze (header s) (with-state x t) confl .clause)
+  mask-keeps-exactly =
+      keeps (header s) two (with-state x t) confl (conflict s work activities out a m) (clashes s work activities out a m .conflict .tied)

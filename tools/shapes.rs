@@ -390,6 +390,9 @@ fn renamed(rng: &mut Rng, f: &mut Formula) {
 
 // ---- scripts
 
+/// A script's clause has no more literals.
+const LONGEST_CLAUSE: u32 = 211;
+
 pub const UNITS: [u32; 9] = [1, 1, 2, 3, 5, 10, 50, 100, 1000];
 const BUDGETS: [u32; 9] = [0, 1, 1, 2, 3, 5, 10, 100, 1000];
 
@@ -430,7 +433,7 @@ fn odd(rng: &mut Rng, vars: u32) -> Vec<u32> {
             lits
         }
         _ => {
-            let n = rng.range(1, 2 * vars);
+            let n = rng.range(1, (2 * vars).min(LONGEST_CLAUSE));
             any(rng, vars, n)
         }
     }
@@ -484,7 +487,7 @@ fn told(rng: &mut Rng, mut f: Formula) -> Script {
             width = vars + selectors;
             records = vec![];
             for mut c in f.clauses {
-                if rng.chance(40) && c.len() < 2 * vars as usize {
+                if rng.chance(40) && c.len() < (2 * vars).min(LONGEST_CLAUSE) as usize {
                     c.push(2 * (vars + rng.below(selectors)) + 1);
                 }
                 records.push(Clause(c));

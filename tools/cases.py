@@ -298,6 +298,7 @@ STORAGE = [
 # ---- refusals: row of the table, lengths of work, activities and out, script, answer
 # The lengths are just enough unless the case is about them; a row judged earlier is met with none.
 
+NO_CELLS = "Q-2: That run is now accepted, writes nothing and touches no slice."
 ROW_1 = "header | 1 | under 6 cells | script length"
 ROW_2 = "header | 2 | V not 1 to 4,096 | 0"
 ROW_3 = "header | 3 | C over 65,535, then L over 1,048,576 | 1 or 2"
@@ -314,8 +315,10 @@ TOP_DOWN = "Order: top to bottom;"
 FRONT_BACK = "records front to back, each 7, then 8 for a missing count, 10, 8, 9, 11."
 
 REFUSALS = [
+    # no cells, whatever is lent
+    ("no-cells", NO_CELLS, "0 0 0", "", ""),
+    ("no-cells-longer-slices", NO_CELLS, "100 5 9", "", ""),
     # row 1
-    ("empty-script", ROW_1, "0 0 0", "", "refused 1 0"),
     ("one-cell", ROW_1, "0 0 0", "2", "refused 1 1"),
     ("five-cells", ROW_1, "0 0 0", "2 8 64 2 2", "refused 1 5"),
     ("five-bad-cells", TOP_DOWN, "0 0 0", "0 65536 1048577 3 3", "refused 1 5"),

@@ -24,7 +24,7 @@ extern "C" {
  * record. `place` is what engine_run returns; cells of the script count from 0. */
 enum engine_refusal {
     ENGINE_ACCEPTED = 0,
-    ENGINE_SHORT_HEADER = 1,     /* the script has under 6 cells; place: its length */
+    ENGINE_SHORT_HEADER = 1,     /* the script has 1 to 5 cells; place: its length */
     ENGINE_BAD_VARIABLES = 2,    /* V is not 1 to 4,096; place: 0 */
     ENGINE_BAD_LIMITS = 3,       /* C is over 65,535 (place 1), or L over 1,048,576 (place 2) */
     ENGINE_BAD_OPTIONS = 4,      /* mode over 2 (place 3), phase over 2 (place 4), or unit not 1 to 1,000 (place 5) */
@@ -66,6 +66,7 @@ enum engine_cause {
  *
  * If it is accepted, *refusal is 0 and the result is how many cells of out were written. The first 32 V + 8 C + L + 64 cells of work and the first V
  * activities are then 0; what they held before does not matter, and the rest of both, and of out, is as it was.
+ * A script of no cells is accepted and writes nothing: the result is 0 and every slice, of any length, is as it was.
  * If it is refused, *refusal is its number, the result its place, and work, activities and out are as they were.
  *
  * "As they were" is proved of every cell, but of an activity that is a NaN only that it is still one: the proof's floats have a single NaN, without sign and payload. No code writes
@@ -79,7 +80,7 @@ uint64_t engine_run(const uint32_t *script, size_t script_len,
 /* The work cells that a script of these V, C and L needs: 32 V + 8 C + L + 64. */
 uint64_t engine_work_len(uint32_t v, uint32_t c, uint32_t l);
 
-/* The out cells that an accepted script needs: clauses + solves (V + 4). 0 if its header or a record is turned back; engine_run says why. */
+/* The out cells that an accepted script needs: clauses + solves (V + 4), so 0 of a script of no cells. 0 too if its header or a record is turned back; engine_run says why. */
 uint64_t engine_out_len(const uint32_t *script, size_t script_len);
 
 /* Writes clauses that say 'at most k of these literals are true' into out, as records of kind 1 for a script of V variables: Sinz's sequential counter.

@@ -298,6 +298,7 @@ STORAGE = [
 # ---- refusals: row of the table, lengths of work, activities and out, script, answer
 # The lengths are just enough unless the case is about them; a row judged earlier is met with none.
 
+NO_CELLS = "Q-2: That run is now accepted, writes nothing and touches no slice."
 ROW_1 = "header | 1 | under 6 cells | script length"
 ROW_2 = "header | 2 | V not 1 to 4,096 | 0"
 ROW_3 = "header | 3 | C over 65,535, then L over 1,048,576 | 1 or 2"
@@ -308,15 +309,17 @@ ROW_7 = "record | 7 | first cell not 1 or 2 | its cell"
 ROW_8 = "record | 8 | record runs past the script | script length"
 ROW_9 = "record | 9 | literal 2×V or more | its cell"
 ROW_10 = "record | 10 | count over 2×V | its cell"
-LONGEST = "a clause count over 211, or over 2×V where that is less, is refusal 10"
+LONGEST = "Q-9: a clause count over 211, or over 2×V where that is less, is refusal 10"
 ROW_11 = "record | 11 | budget over 1,000,000 | its cell"
 ROW_12 = "out | 12 | below clauses + solves × (V + 4) | length needed, or 4,294,967,295 if it is more"
 TOP_DOWN = "Order: top to bottom;"
 FRONT_BACK = "records front to back, each 7, then 8 for a missing count, 10, 8, 9, 11."
 
 REFUSALS = [
+    # no cells, whatever is lent
+    ("no-cells", NO_CELLS, "0 0 0", "", ""),
+    ("no-cells-longer-slices", NO_CELLS, "100 5 9", "", ""),
     # row 1
-    ("empty-script", ROW_1, "0 0 0", "", "refused 1 0"),
     ("one-cell", ROW_1, "0 0 0", "2", "refused 1 1"),
     ("five-cells", ROW_1, "0 0 0", "2 8 64 2 2", "refused 1 5"),
     ("five-bad-cells", TOP_DOWN, "0 0 0", "0 65536 1048577 3 3", "refused 1 5"),

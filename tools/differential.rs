@@ -156,6 +156,9 @@ fn some_limits(rng: &mut Rng) -> Limits {
 /// Document 01's table, read a second time.
 fn judge(script: &[u32], work: usize, activities: usize, out: usize) -> Option<(u32, u64)> {
     let n = script.len();
+    if n == 0 {
+        return None;
+    }
     if n < 6 {
         return Some((1, n as u64));
     }

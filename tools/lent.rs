@@ -91,7 +91,7 @@ impl Lent {
         if n > self.out.len() {
             return Err(format!("{} out cells, and {} were lent", n, self.out.len()));
         }
-        let (need, vars) = (work_needed(script), script[0] as usize);
+        let (need, vars) = if script.is_empty() { (0, 0) } else { (work_needed(script), script[0] as usize) };
         self.untouched(need, vars, n)?;
         if let Some(i) = (0..need).find(|&i| self.work[i] != 0) {
             return Err(format!("work cell {} is not zero", i));

@@ -23,6 +23,8 @@ NO_REASON = -1
 def judge(script, work=None, activities=None, out=None):
     """The refusal's number and place, or None where the script is accepted."""
     n = len(script)
+    if n == 0:  # a run of no records, which writes nothing
+        return None
     if n < 6:
         return 1, n
     V, C, L, mode, phase, unit = script[:6]
@@ -370,7 +372,9 @@ class Run:
 
 
 def run(script):
-    """The out cells of an accepted script, and the state at the end."""
+    """The out cells of an accepted script, and the state at the end (None where it has no cells)."""
+    if not script:
+        return [], None
     state = Run(*script[:6])
     out = []
     at = 6

@@ -390,7 +390,7 @@ def refusals_text():
     return told_text([
         "# Scripts that are turned back, and those just inside the boundary.",
         "# A line: name | lengths of work, activities, out | script cells | refused NUMBER PLACE, or the out cells.",
-        "# {N: cells} stands for the cells N times over. Above them: the row of document 01, or the sentence of document 01 or 02.",
+        "# {N: cells} stands for the cells N times over. Above them: the row or sentence of document 01, or of 02 (Q-).",
     ], [(name, sentence, "", lengths + " | " + cells, expected) for name, sentence, lengths, cells, expected in cases.REFUSALS])
 
 
@@ -490,7 +490,8 @@ def case(name, comments, kind, *fields):
 
 def conflicts(cells, out):
     """How long the definition runs: the conflicts of a script's solves, and one for the script."""
-    return 1 + (reading.run(reading.cells(cells))[1].conflicts if out else 0)
+    state = reading.run(reading.cells(cells))[1] if out else None
+    return 1 + (state.conflicts if state else 0)
 
 
 def theorems(cases):

@@ -44,7 +44,24 @@ static int as_wanted(const uint32_t *s, size_t len, const uint32_t *want, size_t
     return 1;
 }
 
+/* A script of no cells is a run that writes nothing, whatever is lent. */
+static int holds_none(size_t work_len, size_t activities_len, size_t out_len) {
+    uint32_t *script = cells(0), *work = cells(work_len), *out = cells(out_len), refusal = 99;
+    double *activities = some(activities_len, sizeof *activities);
+    for (size_t i = 0; i < activities_len; i++) activities[i] = noise(i);
+    uint64_t written = engine_run(script, 0, work, work_len, activities, activities_len, out, out_len, &refusal);
+    int ok = refusal == ENGINE_ACCEPTED && written == 0 && engine_out_len(script, 0) == 0;
+    ok = ok && as_wanted(work, work_len, NULL, 0) && as_wanted(out, out_len, NULL, 0);
+    for (size_t i = 0; i < activities_len; i++) ok = ok && activities[i] == noise(i);
+    free(script);
+    free(work);
+    free(out);
+    free(activities);
+    return ok;
+}
+
 static int holds(const uint32_t *script, size_t n, const uint32_t *want, size_t count) {
+    if (n == 0) return count == 0 && holds_none(0, 0, 0) && holds_none(100, EXTRA, EXTRA);
     if (n < 6) return 0;
     size_t vars = script[0], used = engine_work_len(script[0], script[1], script[2]);
     size_t work_len = used + EXTRA, activities_len = vars + EXTRA, out_len = engine_out_len(script, n) + EXTRA;

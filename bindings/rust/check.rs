@@ -55,6 +55,7 @@ fn holds(script: &[u32], lengths: [usize; 3], want: Result<Vec<u32>, Refusal>) -
     let got = engine::run(script, &mut work, &mut activities, &mut out);
     // what is written, and how many cells of work and activities are cleared
     let (answered, first, used, vars) = match want {
+        Ok(cells) if script.is_empty() => (Ok(cells.len() as u64), cells, 0, 0),
         Ok(cells) => (Ok(cells.len() as u64), cells, engine::work_len(script[0], script[1], script[2]) as usize, script[0] as usize),
         Err(refusal) => (Err(refusal), vec![], 0, 0),
     };
@@ -70,6 +71,8 @@ fn check(line: &str) -> bool {
     let expected = fields[fields.len() - 1];
     let lengths = if fields.len() == 4 {
         numbers(fields[1]).iter().map(|&n| n as usize).collect()
+    } else if script.is_empty() {
+        vec![EXTRA; 3]
     } else {
         vec![
             engine::work_len(script[0], script[1], script[2]) as usize + EXTRA,

@@ -17,6 +17,9 @@ pub enum Answer {
 pub fn run(script: &[u32], work: &mut [u32], activities: &mut [f64], out: &mut [u32]) -> Answer
     ensures { λ r. ⌜ Runs (now (script .entry)) (now (work .entry)) (now (activities .entry)) (now (out .entry)) r (now (work .exit)) (now (activities .exit)) (now (out .exit)) ⌝ }
 {
+    if script.len() == 0 {
+        return Answer::Ran { cells: 0 };
+    }
     let j = script::judge(script, work.len(), activities.len(), out.len());
     match j {
         Judgement::Refused { number, place } => Answer::Refused {

@@ -3,12 +3,12 @@ use mathlib.Core.Path.{_≡_, refl, sym, subst}
 use mathlib.Core.Logic.{_↔_}
 use mathlib.Core.Bool.{true}
 use mathlib.Core.Option.{none}
-use mathlib.Core.List.{List, _∷_, _++_, Memᴰ·append-right as in-right, List·Memᴰ·head as here}
+use mathlib.Core.List.{List, [], _∷_, _++_, Memᴰ·append-right as in-right, List·Memᴰ·head as here}
 use Prim.Native.Nat.{ℕ, suc, _+_, _*_, _≤_}
 use native.Mathlib.Omega.{arith}
 use lib.ListN.{length, getD}
 use Rattle.model.specs.Luby.{luby}
-use Rattle.model.specs.Script.{Config, Record, clause, solve, header, records-of}
+use Rattle.model.specs.Script.{Config, Record, clause, solve, header, records, records-of}
 use Rattle.model.specs.State.{State, Solver, initial, with-state, decision-level, clause-at}
 use Rattle.model.specs.Intake.{add-clause}
 use Rattle.model.specs.Propagate.{propagate}
@@ -16,9 +16,10 @@ use Rattle.model.specs.Analyze.{first-uip, analyze}
 use Rattle.model.specs.Final.{analyze-final}
 use Rattle.model.specs.Search.{FALSE, Searched, ends, add-learnt-and-backtrack, search, solve-internal, most-conflicts, most-levels, most-turns, UNDEF}
 use Rattle.model.specs.Run.{step, run}
-use Rattle.model.specs.Book.{entry, history, Demand-3, Same-verdict}
+use Rattle.model.specs.Book.{all, entry, history, entries, cells-of, Demand-3, Same-verdict}
 use Rattle.lawbase.specs.Basics.{_∈_}
 use Rattle.lawbase.specs.WellFormed.{WellFormed}
+use Rattle.book.specs.Check.{checks, shows}
 use Rattle.learning.specs.FirstUip as Uip
 use Rattle.learning.specs.FirstUip.{FirstUip}
 use Rattle.learning.specs.Uip.{first-uip-law}
@@ -212,6 +213,11 @@ module _ (s : List ℕ) (work activities out : ℕ) (a : Accepted s work activit
 
 pub demand-3 : (s : List ℕ) (work activities out : ℕ) → Accepted s work activities out → Demand-3 s (run (header s) (records-of s))
 demand-3 s work activities out a = run-demand s (fits s work activities out a)
+
+-- of a script of no cells it is there, and empty
+pub demand-3-of-none : Demand-3 [] []
+unfolding checks cells-of records-of records history entries all
+demand-3-of-none = shows [] [] tt
 
 -- what the book is told of each record of the run: the clauses taken before it, and the cells of its step
 pub told-of-each : (s : List ℕ) (work activities out : ℕ) → Accepted s work activities out

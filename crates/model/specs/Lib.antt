@@ -26,3 +26,4 @@ pub mod Exec
 pub mod Table
 pub mod WrongTurns
 pub mod Steps
+pub mod Requests

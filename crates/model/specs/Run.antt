@@ -39,19 +39,28 @@ pub record After : Type 0 where
   pub activities : List Float
   pub out : List ℕ
 
--- A refusal writes nothing. Else out begins with the run's cells, the run's part of work and of the activities is zero, and all the rest is as found.
+-- nothing is written
+abbrev pub untouched : Answer → List ℕ → List Float → List ℕ → After
+untouched answer work activities out = record { answer = answer; work = work; activities = activities; out = out }
+
+-- out begins with the run's cells, the run's part of work and of the activities is zero, and all the rest is as found
+abbrev pub after-run : Config → List Record → List ℕ → List Float → List ℕ → After
+after-run cfg rs work activities out =
+    let cells = run cfg rs in
+    let used = work-needed cfg in
+    let vars = cfg .variables in
+    record {
+      answer = ran (length cells);
+      work = replicate used 0 ++ drop used work;
+      activities = replicate vars f64-zero ++ drop vars activities;
+      out = cells ++ drop (length cells) out;
+    }
+
+-- A script of no cells is a run that writes nothing, whatever was lent; a refusal writes nothing either.
 unfoldable pub after : List ℕ → List ℕ → List Float → List ℕ → After
-after script work activities out =
-    elim (read script (length work) (length activities) (length out)) [
-      | refused number place ↦ record { answer = turned-back number place; work = work; activities = activities; out = out }
-      | accepted cfg rs ↦
-          let cells = run cfg rs in
-          let used = work-needed cfg in
-          let vars = cfg .variables in
-          record {
-            answer = ran (length cells);
-            work = replicate used 0 ++ drop used work;
-            activities = replicate vars f64-zero ++ drop vars activities;
-            out = cells ++ drop (length cells) out;
-          }
+after [] work activities out = untouched (ran 0) work activities out
+after (cell ∷ cells) work activities out =
+    elim (read (cell ∷ cells) (length work) (length activities) (length out)) [
+      | refused number place ↦ untouched (turned-back number place) work activities out
+      | accepted cfg rs ↦ after-run cfg rs work activities out
     ]

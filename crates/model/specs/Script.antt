@@ -148,7 +148,7 @@ unfoldable pub judge : List Row → Reading → Reading
 judge [] reading = reading
 judge (row number holds place ∷ rows) reading = elim holds [ true ↦ judge rows reading | false ↦ refused number place ]
 
--- a script, and the lengths of work, activities and out
+-- a script with a cell or more, and the lengths of work, activities and out
 unfoldable pub read : List ℕ → ℕ → ℕ → ℕ → Reading
 read s work activities out =
     let n = length s in

@@ -8,9 +8,10 @@ use lib.Dec.{T, eqb}
 use lib.Ieee.{Float}
 use borrow.Author.Tests.{eq-eqb, eqb-true}
 use Rattle.model.specs.State.{f64-zero}
-use Rattle.model.specs.Script.{Reading, refused, accepted, read, header}
+use Rattle.model.specs.Script.{header}
 use Rattle.model.specs.Run.{Answer, turned-back, ran, After, after}
 use Rattle.script.specs.Sound.{and-left, and-right}
+use Rattle.engine.specs.Answering.{after-cases}
 use Rattle.replay.specs.Cells.{noise-cells, noise-floats, float, same, same-floats}
 use Rattle.replay.specs.Exact.{Each, each-append, each-drop, each-replicate, same-exact, same-self, Known, floats-exact, floats-self, known-float, known-noise, zero-float}
 use Rattle.replay.specs.Vector.{same-answer, agrees, wanted, passes}
@@ -55,12 +56,9 @@ known-cleared : (v n : ℕ) (x : Float) → Known x → Each Known (replicate v 
 known-cleared v n x h = each-append Known (replicate v x) (drop v (noise-floats n)) (each-replicate Known v x h) (each-drop Known v (noise-floats n) (known-noise n))
 
 known-after : (s w : List ℕ) (n : ℕ) (o : List ℕ) → Each Known (after s w (noise-floats n) o .activities)
-unfolding after
-known-after s w n o = go (read s (length w) (length (noise-floats n)) (length o)) refl
-  where
-    go : (x : Reading) → read s (length w) (length (noise-floats n)) (length o) ≡ x → Each Known (after s w (noise-floats n) o .activities)
-    go (refused number place) e = rw (e, after) (known-noise n)
-    go (accepted cfg rs) e = rw (e, after) (known-cleared (cfg .variables) n f64-zero (subst Known (sym zero-float) (known-float 0)))
+known-after s w n o =
+    after-cases (λ (x : After). Each Known (x .activities)) s w (noise-floats n) o (λ e. known-noise n) (λ number place e. known-noise n)
+    (λ cfg rs e. known-cleared (cfg .variables) n f64-zero (subst Known (sym zero-float) (known-float 0)))
 
 known-wanted : (s : List ℕ) (refusal place : ℕ) (cells : List ℕ) (w a o : ℕ) → Each Known (wanted s refusal place cells w a o .activities)
 unfolding wanted

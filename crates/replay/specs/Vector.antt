@@ -1,10 +1,11 @@
 -- What a vector wants of its script, and whether the script gives it.
 use Prim.Native.Nat.{ℕ, zero, suc, _+_, _-_}
-use mathlib.Core.Bool.{Bool, false, _&&_}
+use mathlib.Core.Bool.{Bool, true, false, _&&_}
 use mathlib.Core.List.{List, _++_}
 use lib.ListN.{length, getD, take, drop, replicate}
 use lib.Dec.{eqb, leb}
 use lib.Ieee.{Float}
+use Rattle.model.specs.Limits.{header-cells}
 use Rattle.model.specs.Script.{header, work-needed}
 use Rattle.model.specs.Run.{Answer, turned-back, ran, After, after}
 use Rattle.replay.specs.Cells.{noise-cells, noise-floats, float, same, same-floats}
@@ -22,12 +23,16 @@ agrees x y = same-answer (x .answer) (y .answer) && (same (x .work) (y .work) &&
 
 -- ---- a vector: a script, a refusal's number and place or 0 and any place, and the out cells of a run
 
+-- the work cells that a run of a script clears: of a script without a header, none
+unfoldable pub cleared : List ℕ → ℕ
+cleared script = elim (leb header-cells (length script)) [ true ↦ work-needed (header script) | false ↦ 0 ]
+
 -- What it wants of slices of these lengths that are full of noise. Of a run: the script's part of work and of the activities is 0, out begins with the cells, and
 -- behind these all is noise still; of a refusal: nothing is written.
 unfoldable pub wanted : (script : List ℕ) (refusal place : ℕ) (cells : List ℕ) (work activities out : ℕ) → After
 wanted script zero place cells work activities out = record {
   answer = ran (length cells);
-  work = replicate (work-needed (header script)) 0 ++ drop (work-needed (header script)) (noise-cells work);
+  work = replicate (cleared script) 0 ++ drop (cleared script) (noise-cells work);
   activities = replicate (header script .variables) (float 0) ++ drop (header script .variables) (noise-floats activities);
   out = cells ++ drop (length cells) (noise-cells out);
 }
@@ -37,8 +42,7 @@ wanted script (suc n) place cells work activities out = record
 -- a run of the script that wrote n out cells left these slices, which were full of noise, as wanted
 unfoldable pub is-run : (script cells : List ℕ) (n : ℕ) (work : List ℕ) (activities : List Float) (out : List ℕ) → Bool
 is-run script cells n work activities out =
-    leb 6 (length script)
-    && agrees record { answer = ran n; work = work; activities = activities; out = out }
+    agrees record { answer = ran n; work = work; activities = activities; out = out }
     (wanted script 0 0 cells (length work) (length activities) (length out))
 
 -- slices that are full of noise still

@@ -2,41 +2,43 @@
 use Prim.Native.Nat.{ℕ, zero, suc, _+_, _-_, _≤_, _<_}
 use mathlib.Core.Path.{_≡_, refl, sym, ap, _∙_}
 use mathlib.Core.Bool.{Bool, true, false, _&&_, and-false}
-use mathlib.Core.List.{List, _++_}
+use mathlib.Core.List.{List, [], _∷_, _++_}
 use native.Mathlib.Omega.{arith}
 use lib.ListN.{length, getD, take, drop, replicate, length-drop}
 use lib.Seq.{take-all}
 use lib.Dec.{leb}
 use lib.Ieee.{Float}
 use borrow.Author.Tests.{le-leb, lt-leb, eq-eqb, ne-eqb}
-use Rattle.model.specs.Script.{Reading, refused, accepted, read, header, work-needed}
+use Rattle.model.specs.Limits.{header-cells}
+use Rattle.model.specs.Script.{header, work-needed}
 use Rattle.model.specs.Run.{Answer, turned-back, ran, After, after}
-use Rattle.script.specs.Accepted.{accepted-of}
 use Rattle.script.specs.Needs.{sized}
 use Rattle.engine.specs.Answering.{refusal-numbered}
 use Rattle.engine.specs.Runs.{answer-of, Runs}
 use Rattle.engine.specs.declared.Answer as engine
 use Rattle.engine.specs.declared.Answer.the-variants as engine-answer
 use Rattle.replay.specs.Cells.{noise-cells, noise-floats, float, same, same-floats}
-use Rattle.replay.specs.Vector.{same-answer, agrees, wanted, is-run, untouched, passes, vector-holds}
+use Rattle.replay.specs.Vector.{same-answer, agrees, cleared, wanted, is-run, untouched, passes, vector-holds}
 
--- ---- the answer of a run
+-- ---- what a run clears
 
-module _ (s w : List ℕ) (a : List Float) (o : List ℕ) where
-  answer-refused : (number place : ℕ) → read s (length w) (length a) (length o) ≡ refused number place → after s w a o .answer ≡ turned-back number place
-  unfolding after
-  answer-refused number place e = rw (e, after)
+module _ (s : List ℕ) where
+  pub cleared-none : length s < header-cells → cleared s ≡ 0
+  unfolding cleared
+  cleared-none h = rw (lt-leb header-cells (length s) h, cleared)
 
-  apart : (number place n : ℕ) → _≡_ {A = Answer} (turned-back number place) (ran n) → ⊥
-  apart number place n e = let q : _≡_ {A = ℕ} 0 1 = cc in omega (arith, q)
+  pub cleared-some : header-cells ≤ length s → cleared s ≡ work-needed (sized (getD s 0 0) (getD s 1 0) (getD s 2 0))
+  unfolding cleared header work-needed
+  cleared-some h = rw (le-leb header-cells (length s) h, cleared)
 
-  -- a script that runs has a header
-  ran-long : (n : ℕ) → after s w a o .answer ≡ ran n → 6 ≤ length s
-  ran-long n f = go (read s (length w) (length a) (length o)) refl
-    where
-      go : (x : Reading) → read s (length w) (length a) (length o) ≡ x → 6 ≤ length s
-      go (refused number place) e = absurd (apart number place n (sym (answer-refused number place e) ∙ f))
-      go (accepted cfg rs) e = accepted-of s (length w) (length a) (length o) cfg rs e .header-fits .cells
+pub first-cell : (s : List ℕ) → getD s 0 0 ≡ header s .variables
+unfolding header
+first-cell s = refl
+
+pub no-variables : (s : List ℕ) → length s ≡ 0 → 0 ≡ header s .variables
+unfolding header
+no-variables [] e = refl
+no-variables (c ∷ s) e = absurd (omega (arith, e))
 
 -- ---- tests, one after the other
 
@@ -50,7 +52,7 @@ and-next a b r e f = rw (e, f)
 
 module _ (s cells : List ℕ) (n : ℕ) (w : List ℕ) (a : List Float) (o : List ℕ) where
   abbrev work-clear : Bool
-  work-clear = same w (replicate (work-needed (header s)) 0 ++ drop (work-needed (header s)) (noise-cells (length w)))
+  work-clear = same w (replicate (cleared s) 0 ++ drop (cleared s) (noise-cells (length w)))
 
   abbrev activities-clear : Bool
   activities-clear = same-floats a (replicate (header s .variables) (float 0) ++ drop (header s .variables) (noise-floats (length a)))
@@ -58,32 +60,26 @@ module _ (s cells : List ℕ) (n : ℕ) (w : List ℕ) (a : List Float) (o : Lis
   abbrev out-as-wanted : Bool
   out-as-wanted = same o (cells ++ drop (length cells) (noise-cells (length o)))
 
-  pub run-short : length s < 6 → false ≡ is-run s cells n w a o
-  unfolding is-run
-  run-short h = rw (lt-leb 6 (length s) h, is-run)
-
   pub run-count : (n ≡ length cells → ⊥) → false ≡ is-run s cells n w a o
   unfolding is-run agrees wanted same-answer
-  run-count h = rw (is-run, ne-eqb n (length cells) h, and-false)
+  run-count h = rw (is-run, ne-eqb n (length cells) h)
 
-  module _ (h : 6 ≤ length s) (e : n ≡ length cells) where
+  module _ (e : n ≡ length cells) where
     run-tests : (work-clear && (activities-clear && out-as-wanted)) ≡ is-run s cells n w a o
     unfolding is-run agrees wanted same-answer
-    run-tests = rw (is-run, le-leb 6 (length s) h, eq-eqb n (length cells) e)
+    run-tests = rw (is-run, eq-eqb n (length cells) e)
 
-    module _ (need : ℕ) (b : Bool) (m : need ≡ work-needed (sized (getD s 0 0) (getD s 1 0) (getD s 2 0)))
+    module _ (need : ℕ) (b : Bool) (m : need ≡ cleared s)
         (p : b ≡ same w (replicate need 0 ++ drop need (noise-cells (length w)))) where
       clear-is : b ≡ work-clear
-      unfolding header work-needed
       clear-is = p ∙ ap (λ (k : ℕ). same w (replicate k 0 ++ drop k (noise-cells (length w)))) m
 
       pub run-work : b ≡ false → false ≡ is-run s cells n w a o
       run-work f = and-first work-clear (activities-clear && out-as-wanted) (sym clear-is ∙ f) ∙ run-tests
 
-      module _ (t : b ≡ true) (vars : ℕ) (b′ : Bool) (v : vars ≡ getD s 0 0)
+      module _ (t : b ≡ true) (vars : ℕ) (b′ : Bool) (v : vars ≡ header s .variables)
           (p′ : b′ ≡ same-floats a (replicate vars (float 0) ++ drop vars (noise-floats (length a)))) where
         clear-is′ : b′ ≡ activities-clear
-        unfolding header
         clear-is′ = p′ ∙ ap (λ (k : ℕ). same-floats a (replicate k (float 0) ++ drop k (noise-floats (length a)))) v
 
         pub run-activities : b′ ≡ false → false ≡ is-run s cells n w a o
@@ -95,11 +91,6 @@ module _ (s cells : List ℕ) (n : ℕ) (w : List ℕ) (a : List Float) (o : Lis
         run-out f r q =
             and-next work-clear (activities-clear && out-as-wanted) r (sym clear-is ∙ t) (and-next activities-clear out-as-wanted r (sym clear-is′ ∙ f) q)
             ∙ run-tests
-
-is-run-agrees : (s cells : List ℕ) (n : ℕ) (w : List ℕ) (a : List Float) (o : List ℕ) → 6 ≤ length s
-    → is-run s cells n w a o ≡ agrees record { answer = ran n; work = w; activities = a; out = o } (wanted s 0 0 cells (length w) (length a) (length o))
-unfolding is-run
-is-run-agrees s cells n w a o h = rw (is-run, le-leb 6 (length s) h)
 
 wanted-run : (s cells : List ℕ) (place work activities out refusal : ℕ) → refusal ≡ 0
     → wanted s 0 0 cells work activities out ≡ wanted s refusal place cells work activities out
@@ -196,13 +187,11 @@ module _ (s cells : List ℕ) (place work activities out : ℕ) where
 
     module _ (lw : length w′ ≡ work) (la : length a′ ≡ activities) (lo : length o′ ≡ out) where
       pub passes-ran : (n : ℕ) (b : Bool) → r ≡ engine-answer.Ran n → refusal ≡ 0 → b ≡ is-run s cells n w′ a′ o′ → b ≡ passes s refusal place cells work activities out
+      unfolding is-run
       passes-ran n b e z p = p ∙ run-agrees ∙ ap (agrees (record { answer = ran n; work = w′; activities = a′; out = o′ })) any-place ∙ passes-by (ran n) (ap answer-of e)
         where
-          long : 6 ≤ length s
-          long = ran-long s (noise-cells work) (noise-floats activities) (noise-cells out) n (sym (k .answer) ∙ ap answer-of e)
-
           run-agrees : is-run s cells n w′ a′ o′ ≡ agrees record { answer = ran n; work = w′; activities = a′; out = o′ } (wanted s 0 0 cells work activities out)
-          run-agrees = is-run-agrees s cells n w′ a′ o′ long ∙ rw (lw, la, lo)
+          run-agrees = rw (is-run, lw, la, lo)
 
           any-place : wanted s 0 0 cells work activities out ≡ wanted s refusal place cells work activities out
           any-place = wanted-run s cells place work activities out refusal z

@@ -6,9 +6,10 @@ ghost use mathlib.Core.Path.{_≡_};
 ghost use mathlib.Core.List.{_++_};
 ghost use Prim.Native.Nat.{_+_, _≤_};
 ghost use lib.ListN.{length, take, drop, replicate};
+ghost use Rattle.model.specs.Script.{header};
 ghost use Rattle.text.specs.Split.{before, lines};
 ghost use Rattle.replay.specs.Lines.{line-numbers, line-holds, one, added, all-scripts, tallied, Grouped};
-ghost use Rattle.replay.specs.Vector.{is-run, untouched, passes, vector-holds};
+ghost use Rattle.replay.specs.Vector.{cleared, is-run, untouched, passes, vector-holds};
 ghost use Rattle.replay.specs.Cells.{noise, noise-cells, noise-floats, cell-behind, cell-clear, float, like, same, same-floats};
 use engine::Answer;
 
@@ -117,6 +118,26 @@ fn wider(x: u32) -> u64
     x as u64
 }
 
+// The work cells that a run of the script clears.
+fn cleared(script: &[u32]) -> usize
+    ensures { λ r. ⌜ r ≡ cleared (now (script .entry)) ⌝ }
+{
+    if script.len() < 6 {
+        return 0;
+    }
+    engine::engine_work_len(script[0], script[1], script[2]) as usize
+}
+
+// The variables of a script, none where it has no cells.
+fn variables(script: &[u32]) -> usize
+    ensures { λ r. ⌜ r ≡ header (now (script .entry)) .variables ⌝ }
+{
+    if script.len() == 0 {
+        return 0;
+    }
+    wide(script[0])
+}
+
 // Whether a run that wrote n out cells left these slices.
 fn is_run(
     script: &[u32],
@@ -131,14 +152,10 @@ fn is_run(
     if n != want.len() as u64 {
         return false;
     }
-    if script.len() < 6 {
+    if !is_clear(work, cleared(script)) {
         return false;
     }
-    let need = engine::engine_work_len(script[0], script[1], script[2]);
-    if !is_clear(work, need as usize) {
-        return false;
-    }
-    if !is_clear_floats(activities, wide(script[0])) {
+    if !is_clear_floats(activities, variables(script)) {
         return false;
     }
     is_out(out, want)

@@ -6,7 +6,8 @@ use Rattle.vectors.specs.Cases.{Case, refused, passes, failing}
 
 cases-1 : List Case
 cases-1 =
-    refused "empty-script" "0 0 0" "" "1 0" ∷
+    passes "no-cells" "0 0 0" "" "" ∷
+    passes "no-cells-longer-slices" "100 5 9" "" "" ∷
     refused "one-cell" "0 0 0" "2" "1 1" ∷
     refused "five-cells" "0 0 0" "2 8 64 2 2" "1 5" ∷
     refused "five-bad-cells" "0 0 0" "0 65536 1048577 3 3" "1 5" ∷
@@ -65,7 +66,6 @@ cases-1 =
     refused "literal-before-budget" "256 2 64" "2 8 64 2 2 100 2 1 4 1000001" "9 8" ∷
     refused "clause-of-2-v-and-one" "256 2 64" "2 8 64 2 2 100 1 5 0 0 0 0 0" "10 7" ∷
     passes "clause-of-2-v-passes" "256 2 1" "2 8 64 2 2 100 1 4 0 0 0 0" "1" ∷
-    refused "assumptions-2-v-and-one" "256 2 64" "2 8 64 2 2 100 2 5 0 0 0 0 0 1" "10 7" ∷
     []
 
 all-hold-1 : failing cases-1 ≡ []
@@ -74,6 +74,7 @@ all-hold-1 = refl
 
 cases-2 : List Case
 cases-2 =
+    refused "assumptions-2-v-and-one" "256 2 64" "2 8 64 2 2 100 2 5 0 0 0 0 0 1" "10 7" ∷
     passes "assumptions-2-v-pass" "256 2 6" "2 8 64 2 2 100 2 4 0 0 0 0 1" "0 0 2 0 1" ∷
     refused "count-before-the-end" "256 2 64" "2 8 64 2 2 100 1 5" "10 7" ∷
     refused "count-4294967295" "256 2 64" "2 8 64 2 2 100 1 4294967295 0" "10 7" ∷

@@ -1,4 +1,6 @@
 // Rule 7: activities of variables, and the pick of rule 6. Each operation on a float is rounded once.
+#![tactic(auto)]
+
 ghost use Rattle.std.specs.Prelude.{◌≡◌, List, map, ◌<◌, length, get_or, replicate, Float};
 ghost use Rattle.std.proofs.Math.Option.{none, some};
 ghost use Rattle.model.specs.State.{f64_zero, initial_activity};
@@ -75,7 +77,7 @@ fn first_unset(values: &[u32]) -> usize
 }
 
 // The best variable so far. Its activity is kept beside it: the pick looks at every variable, and this is what it compares with.
-#[derive(Drop)]
+#[derive(Clone, Copy)]
 struct Best {
     var: Var,
     top: f64,
@@ -102,7 +104,7 @@ fn better<'a>(values: &'a [u32], act: &'a [f64], b: Best, i: usize) -> Best
 }
 
 // What the pick finds: a variable, or that every one has a value.
-#[derive(Drop)]
+#[derive(Clone, Copy)]
 pub enum Choice {
     Of(Var),
     Nothing,

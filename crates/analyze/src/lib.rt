@@ -1,4 +1,6 @@
 // Rule 3: from a false clause to the clause that is learnt.
+#![tactic(auto)]
+
 ghost use Rattle.std.specs.Prelude.{◌≡◌, true, [], ◌∷◌, ◌+◌, ◌*◌, ◌<◌, ◌≤◌, length, get_or, drop, Float, List};
 ghost use Rattle.std.proofs.Math.Seq.{slice};
 ghost use Rattle.model.specs.Lit.{var};
@@ -22,7 +24,7 @@ use clause::{Lit, Var, wide};
 use state::{Config, Header, Sizes};
 
 // The resolvent so far: how many of its literals are on the conflict's level, the buffer's place behind the others, and the activities' increment.
-#[derive(Drop)]
+#[derive(Clone, Copy)]
 pub struct Joined {
     pub path: usize,
     pub learnt: usize,

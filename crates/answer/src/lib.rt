@@ -1,4 +1,6 @@
 // A record's answer: its cells in out, and the state that it leaves.
+#![tactic(auto)]
+
 ghost use Rattle.std.specs.Prelude.{◌≡◌, true, List, [], ◌∷◌, ◌+◌, ◌*◌, ◌≤◌, ◌<◌, length, Float};
 ghost use Rattle.std.proofs.Math.Seq.{paste};
 ghost use Rattle.lawbase.specs.Basics.{Every};
@@ -17,7 +19,7 @@ use search::{Searched, Solver, Status};
 use state::{Config, Header};
 
 // The state after a record, and where the next answer goes.
-#[derive(Drop)]
+#[derive(Clone, Copy)]
 pub struct Next {
     pub solver: Solver,
     pub at: usize,

@@ -1,1 +1,3 @@
 // The claims about the plain book stand in specs/.
+
+#![tactic(auto)]

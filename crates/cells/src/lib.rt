@@ -1,4 +1,6 @@
 // Answers written into out: a clause's cell, and a solve's cells.
+#![tactic(auto)]
+
 ghost use Rattle.std.specs.Prelude.{◌≡◌, [], ◌∷◌, ◌+◌, ◌≤◌, length};
 ghost use Rattle.model.specs.Search.{cells};
 ghost use Rattle.std.proofs.Math.Seq.{paste};

@@ -1,13 +1,15 @@
 // Literals and values, as in clause.rs. A variable number and a literal number are different types, so neither is taken for the other.
+#![tactic(auto)]
+
 ghost use Rattle.std.specs.Prelude.{◌≡◌, ◌+◌, ◌*◌, ◌<◌};
 ghost use Rattle.model.specs.Lit.{var, sign, neg, undef_lit, value_for};
 
 // A variable, from 0.
-#[derive(Drop)]
+#[derive(Clone, Copy)]
 pub struct Var(pub u32);
 
 // Variable v positive is 2v, negated 2v + 1.
-#[derive(Drop)]
+#[derive(Clone, Copy)]
 pub struct Lit(pub u32);
 
 // The values of a variable and of a literal.

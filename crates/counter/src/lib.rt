@@ -1,4 +1,6 @@
 // 'At most k of these n literals' by Sinz's sequential counter: the clauses written as records of kind 1 into a lent slice.
+#![tactic(auto)]
+
 ghost use Rattle.std.specs.Prelude.{◌≡◌, length};
 ghost use Rattle.counter.specs.Counter.{at_most, len_of};
 ghost use Rattle.counter.specs.Wrote.{Wrote};
@@ -13,7 +15,7 @@ use script::Judgement;
 const MAX_COUNT: u32 = 64;
 
 // What a call comes to: the cells written, or a refusal's number and place.
-#[derive(Drop)]
+#[derive(Clone, Copy)]
 pub enum Answer {
     Refused { number: u32, place: u64 },
     Written { cells: u64 },

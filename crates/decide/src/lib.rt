@@ -1,4 +1,6 @@
 // Rule 6: the next decision, and the final clause when an assumption is false.
+#![tactic(auto)]
+
 ghost use Rattle.std.specs.Prelude.{◌≡◌, [], ◌+◌, ◌*◌, ◌≤◌, ◌<◌, length, get_or, drop};
 ghost use Rattle.model.specs.Lit.{var, value_lit};
 ghost use Rattle.model.specs.Final.{mark, analyze_final};
@@ -138,14 +140,14 @@ pub fn analyze_final(g: Config, h: Header, work: &mut [u32], p: Lit) -> Header
 }
 
 // The literal of the next decision, or that every variable has a value.
-#[derive(Drop)]
+#[derive(Clone, Copy)]
 pub enum Branch {
     On(Lit),
     Nothing,
 }
 
 // A level is opened with its decision; or every variable has a value; or an assumption is false, with the final clause.
-#[derive(Drop)]
+#[derive(Clone, Copy)]
 pub enum Decision {
     Decided(Header),
     Complete(Header),

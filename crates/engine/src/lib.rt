@@ -1,4 +1,6 @@
 // The run: a script judged, and its records in turn.
+#![tactic(auto)]
+
 ghost use Rattle.std.specs.Prelude.{◌≡◌};
 ghost use Rattle.model.specs.Script.{work_needed};
 ghost use Rattle.script.specs.Needs.{sized, out_len_of};
@@ -9,7 +11,7 @@ ghost use Rattle.engine.specs.AtMost.{GivesAtMost};
 use script::Judgement;
 
 // What a run comes to: the out cells written, or a refusal's number and place.
-#[derive(Drop)]
+#[derive(Clone, Copy)]
 pub enum Answer {
     Ran { cells: u64 },
     Refused { number: u32, place: u64 },

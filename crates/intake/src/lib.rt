@@ -1,4 +1,6 @@
 // Rule 1: taking a clause.
+#![tactic(auto)]
+
 ghost use Rattle.std.specs.Prelude.{◌≡◌, [], ℕ, ◌+◌, ◌*◌, ◌≤◌, ◌<◌, length, get_or, take};
 ghost use Rattle.model.specs.Intake.{insert, sort, add_clause};
 ghost use Rattle.model.specs.Store.{stored_literals};
@@ -98,20 +100,20 @@ fn sort_in(d: Sizes, h: Header, work: &mut [u32], part: &[u32])
 }
 
 // The literals kept of a clause: how many, and the last one.
-#[derive(Drop)]
+#[derive(Clone, Copy)]
 struct Keeping {
     last: Lit,
     count: usize,
 }
 
-#[derive(Drop)]
+#[derive(Clone, Copy)]
 enum Judged {
     Dropped,
     On(Keeping),
 }
 
 // What a clause keeps: nothing is left to do where a literal is true, or both signs of one are there.
-#[derive(Drop)]
+#[derive(Clone, Copy)]
 pub enum Kept {
     Dropped,
     Some(usize),
@@ -179,7 +181,7 @@ const IS_TAKEN: u32 = 1;
 
 const NO_STORAGE: u32 = 2;
 
-#[derive(Drop)]
+#[derive(Clone, Copy)]
 pub struct Taken {
     pub head: Header,
     pub answer: u32,

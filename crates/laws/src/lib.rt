@@ -1,1 +1,3 @@
 // The theorems stand in specs/.
+
+#![tactic(auto)]

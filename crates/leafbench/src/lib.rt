@@ -1,4 +1,6 @@
 // Loops over the state's functions, for measuring them from outside.
+#![tactic(auto)]
+
 ghost use Rattle.std.specs.Prelude.{◌+◌, ◌*◌, ◌<◌, ◌≤◌, ◌≡◌, length, get_or, take};
 ghost use Rattle.watch.specs.View.{list_of};
 ghost use Rattle.state.specs.View.{Rep, whole};
@@ -26,7 +28,7 @@ fn fill(d: Sizes, h: Header, work: &mut [u32], order: &[u32]) -> Header
 }
 
 // The header after some turns, and how many literals were put on the trail in them.
-#[derive(Drop)]
+#[derive(Clone, Copy)]
 pub struct Turned {
     pub head: Header,
     pub put: u64,

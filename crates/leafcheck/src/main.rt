@@ -1,4 +1,6 @@
 // Runs what stands on no other code: Luby's terms, activities by their bits, and a set of literals. The gate compares what it writes.
+#![tactic(auto)]
+
 ghost use Rattle.std.specs.Prelude.{◌<◌, ◌≤◌, length};
 ghost use Rattle.region.specs.Split.{total};
 ghost use Rattle.litset.specs.View.{shape, Rep};

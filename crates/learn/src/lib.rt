@@ -1,4 +1,6 @@
 // Rules 3 and 5: the clause that is learnt from a conflict, and the way back.
+#![tactic(auto)]
+
 ghost use Rattle.std.specs.Prelude.{◌≡◌, [], length, get_or, take};
 ghost use Rattle.std.proofs.Math.Seq.{slice};
 ghost use Rattle.learning.specs.FirstUip.{Conflict};
@@ -16,7 +18,7 @@ use clause::NO_REASON;
 use state::{Config, Header};
 
 // The clause that is learnt stands first in the buffer.
-#[derive(Drop)]
+#[derive(Clone, Copy)]
 pub struct Learnt {
     pub size: usize,
     pub level: usize,
@@ -90,7 +92,7 @@ fn learn_clause(g: Config, h: Header, work: &mut [u32], n: usize, level: usize) 
 }
 
 // How the way back ends. Where there is no storage, nothing is done.
-#[derive(Drop)]
+#[derive(Clone, Copy)]
 pub enum Backed {
     NoStorage,
     Back(Header),

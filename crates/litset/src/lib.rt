@@ -1,5 +1,7 @@
 // A set of literals, as IntSet of intmap.rs: in order of first insertion, with no repeats. It stands in a slice of its own: a flag by literal, which
 // is 1 for a member and else 0, then the members.
+#![tactic(auto)]
+
 ghost use Rattle.std.specs.Prelude.{◌≡◌, ◌+◌, ◌≤◌, ◌<◌, length, get_or};
 ghost use Rattle.region.specs.Split.{total};
 ghost use Rattle.litset.specs.View.{shape, view, inserted, unmarked, emptied, Rep, Holds, Insertable, Clearing};
@@ -7,13 +9,13 @@ ghost use Rattle.litset.specs.View.{shape, view, inserted, unmarked, emptied, Re
 use clause::{Lit, wide};
 
 // How many literals there are, and how many members there is room for.
-#[derive(Drop)]
+#[derive(Clone, Copy)]
 pub struct Size {
     pub lits: usize,
     pub room: usize,
 }
 
-#[derive(Drop)]
+#[derive(Clone, Copy)]
 pub struct Head {
     pub count: usize,
 }

@@ -1,4 +1,6 @@
 // The bench program of document 01: reads a text of clauses and solves from standard input, runs it, and writes the answers, or why the text is refused.
+#![tactic(auto)]
+
 ghost use Rattle.std.specs.Prelude.{◌-◌, ◌≤◌, ◌<◌, ◌≡◌, length};
 ghost use Rattle.model.specs.Run.{after};
 ghost use Rattle.text.specs.Limits.{max_cells, max_bytes};
@@ -73,7 +75,7 @@ fn bench(input: &[u8], text: &mut [u8]) -> usize
 }
 
 // What one read came to: it failed, the input has ended, or so many bytes were put into the slice.
-#[derive(Drop)]
+#[derive(Clone, Copy)]
 enum Step {
     Failed,
     End,
@@ -111,7 +113,7 @@ fn read_on(input: &mut [u8], n: usize) -> Step
 }
 
 // An input: all of its bytes, which are so many, or as many as there is room for; or no input, since a read failed.
-#[derive(Drop)]
+#[derive(Clone, Copy)]
 enum Input {
     Cut,
     Whole(usize),

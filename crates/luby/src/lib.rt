@@ -1,4 +1,6 @@
 // Luby's sequence, which sets how many conflicts there are between two restarts.
+#![tactic(auto)]
+
 ghost use Rattle.std.specs.Prelude.{◌≡◌, ◌<◌};
 ghost use Rattle.model.specs.Luby.{climb, descend, luby};
 ghost use Rattle.luby.specs.Laws.{Beginning, Climbed, Term};
@@ -6,7 +8,7 @@ ghost use Rattle.luby.specs.Laws.{Beginning, Climbed, Term};
 mod terms;
 
 // A beginning of the sequence of `size` = 2 ^ (seq + 1) - 1 terms.
-#[derive(Drop)]
+#[derive(Clone, Copy)]
 struct Part {
     size: u32,
     seq: u32,

@@ -1,4 +1,6 @@
 // Rule 4: literals of a learnt clause that follow from the others are dropped.
+#![tactic(auto)]
+
 ghost use Rattle.std.specs.Prelude.{◌≡◌, ◌+◌, ◌-◌, ◌≤◌, ◌<◌, length};
 ghost use Rattle.std.proofs.Math.Seq.{slice};
 ghost use Rattle.model.specs.Lit.{var, abstract_level};
@@ -26,7 +28,7 @@ pub fn abstract_level(level: usize) -> u32
 }
 
 // How pushing a reason ended: whether every literal could be passed over or pushed, and how many are on the stack and noted.
-#[derive(Drop)]
+#[derive(Clone, Copy)]
 pub struct Pushed {
     pub done: bool,
     pub stack: usize,
@@ -155,7 +157,7 @@ fn unmark(d: Sizes, h: Header, work: &mut [u32], from: usize, to: usize)
 }
 
 // Whether a literal follows from the marked ones, and how many marks are noted then.
-#[derive(Drop)]
+#[derive(Clone, Copy)]
 pub struct Traced {
     pub gone: bool,
     pub noted: usize,
@@ -237,7 +239,7 @@ fn is_redundant(d: Sizes, h: Header, work: &mut [u32], mask: u32, l: Lit, noted:
 }
 
 // What is left of the clause: the buffer's place behind it, and how many marks are noted.
-#[derive(Drop)]
+#[derive(Clone, Copy)]
 pub struct Kept {
     pub kept: usize,
     pub noted: usize,

@@ -1,4 +1,6 @@
 // Rule 2: propagation over the watch lists.
+#![tactic(auto)]
+
 ghost use Rattle.std.specs.Prelude.{◌≡◌, false, [], ◌+◌, ◌*◌, ◌/◌, ◌≤◌, ◌<◌, length, get_or, drop};
 ghost use Rattle.model.specs.Lit.{var, neg, is_true, is_false};
 ghost use Rattle.model.specs.Propagate.{false_second, new_watch, visit, propagate};
@@ -17,7 +19,7 @@ use state::{Config, Header, Sizes, assignment, clauses, watches};
 use watch::Cursor;
 
 // The header, and whether a clause is false, with its index.
-#[derive(Drop)]
+#[derive(Clone, Copy)]
 pub struct Propagated {
     pub head: Header,
     pub conflict: bool,
@@ -25,7 +27,7 @@ pub struct Propagated {
 }
 
 // After one watch: the header, the cursor at the next watch, and whether the clause is false.
-#[derive(Drop)]
+#[derive(Clone, Copy)]
 pub struct Step {
     pub head: Header,
     pub cursor: Cursor,

@@ -1,16 +1,18 @@
 // The script's reader: it carries the script and the cell it has reached. Every function over it is thin: it takes the reader apart, and one of crate `script` does the work.
+#![tactic(auto)]
+
 ghost use Rattle.std.specs.Prelude.{◌≡◌};
 ghost use Rattle.script.specs.Walk.{kind_at, literals_at, next_at, RecordAt};
 ghost use Rattle.reader.specs.Seen.{asked_at, seen_at};
 
-#[derive(Drop)]
+#[derive(Clone, Copy)]
 pub struct Reader<'a> {
     pub script: &'a [u32],
     pub at: usize,
 }
 
 // A record in numbers: its kind, the cell behind its literals or 0, and where the next record begins.
-#[derive(Drop)]
+#[derive(Clone, Copy)]
 pub struct Seen {
     pub kind: u32,
     pub budget: u32,

@@ -1,4 +1,6 @@
 // The records of an accepted script in turn.
+#![tactic(auto)]
+
 ghost use Rattle.std.specs.Prelude.{◌≡◌, ◌++◌, ◌≤◌, ◌<◌, length, drop, replicate};
 ghost use Rattle.model.specs.Limits.{header_cells};
 ghost use Rattle.model.specs.Script.{header, work_needed};

@@ -2,6 +2,8 @@
 //
 // Standard input is made of lines. `group` and a title opens a group. Every other line is a script: a name, then numbers with one blank between them: the
 // lengths of work, activities and out; the number and the place of the refusal, or 0 and 0; how many cells the script has; these cells; the out cells.
+#![tactic(auto)]
+
 ghost use Rattle.std.specs.Prelude.{◌≡◌, ◌+◌, ◌≤◌, ◌++◌, length, take, drop, replicate};
 ghost use Rattle.model.specs.Script.{header};
 ghost use Rattle.text.specs.Split.{before, lines};
@@ -273,7 +275,7 @@ fn numbers(line: &[u8], cells: &mut [u32]) -> usize
 }
 
 // How many scripts gave what they should, and how many did not.
-#[derive(Drop)]
+#[derive(Clone, Copy)]
 struct Tally {
     passed: u64,
     failed: u64,
@@ -329,7 +331,7 @@ fn script(
 }
 
 // A group counted, and where it ends.
-#[derive(Drop)]
+#[derive(Clone, Copy)]
 struct Counted {
     tally: Tally,
     end: usize,

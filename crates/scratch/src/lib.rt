@@ -1,11 +1,13 @@
 // What conflict analysis and intake write beside the state: a mark by variable, a buffer for a clause, a stack of literals to trace, and the literals
 // whose marks are to be taken back. It stands in a slice of its own.
+#![tactic(auto)]
+
 ghost use Rattle.std.specs.Prelude.{◌≡◌, ◌*◌, ◌<◌, length, get_or, replicate};
 ghost use Rattle.scratch.specs.View.{Room, Holds, view, marked, buffered, stacked, noted, unmarked};
 
 use clause::{Lit, Var};
 
-#[derive(Drop)]
+#[derive(Clone, Copy)]
 pub struct ScratchSize {
     pub vars: usize,
 }

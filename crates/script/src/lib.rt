@@ -1,4 +1,6 @@
 // The reading of a script: what is turned back, and the records of what is accepted.
+#![tactic(auto)]
+
 ghost use Rattle.std.specs.Prelude.{◌≡◌, ◌+◌, ◌≤◌, ◌<◌, min, length, get_or};
 ghost use Rattle.model.specs.Limits.{header_cells, max_variables};
 ghost use Rattle.model.specs.Script.{known, lead, most_count, limits, trailing, cost, header, header_rows, slice_rows, literal_rows, out_rows, out_needed, work_needed, read};
@@ -47,14 +49,14 @@ const MAX_PLACE: u64 = 4294967295;
 const MAX_CELLS: u64 = 18446744073709551615;
 
 // The answer to a script, and to a part of its rows: the first row that does not hold, or none.
-#[derive(Drop)]
+#[derive(Clone, Copy)]
 pub enum Judgement {
     Refused { number: u32, place: u64 },
     Accepted,
 }
 
 // How many cells, up to a bound.
-#[derive(Drop)]
+#[derive(Clone, Copy)]
 enum Need {
     Cells(u64),
     More,

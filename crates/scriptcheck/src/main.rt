@@ -1,4 +1,6 @@
 // Judges scripts, one for each number of the table and some that are accepted, and writes a line for each: the number and the place, or 'accepted'.
+#![tactic(auto)]
+
 use script::Judgement;
 
 fn show(j: Judgement) {

@@ -1,4 +1,6 @@
 // Rules 5, 6 and 8: a turn of the search, the search, and the searches of a solve.
+#![tactic(auto)]
+
 ghost use Rattle.std.specs.Prelude.{◌≡◌, true, false, suc, ◌+◌, ◌≤◌, ◌<◌, List, length, Float};
 ghost use Rattle.model.specs.State.{decision_level};
 ghost use Rattle.model.specs.Search.{on_conflict, on_no_conflict, turn, search, solve_internal, most_turns, most_conflicts};
@@ -13,14 +15,14 @@ use learn::Backed;
 use state::{Config, Header};
 
 // The state in the work slice and beside it; the activities are in their own slice.
-#[derive(Drop)]
+#[derive(Clone, Copy)]
 pub struct Solver {
     pub head: Header,
     pub inc: f64,
 }
 
 // How a search ends. The final clause of FALSE is the state's.
-#[derive(Drop)]
+#[derive(Clone, Copy)]
 pub enum Status {
     True,
     False,
@@ -29,7 +31,7 @@ pub enum Status {
 }
 
 // The conflicts are those of the solve.
-#[derive(Drop)]
+#[derive(Clone, Copy)]
 pub struct Searched {
     pub solver: Solver,
     pub conflicts: u32,
@@ -37,7 +39,7 @@ pub struct Searched {
 }
 
 // What a turn comes to: another turn, with the conflicts of the solve and of this search, or the end.
-#[derive(Drop)]
+#[derive(Clone, Copy)]
 pub enum Outcome {
     GoesOn {
         conflicts: u32,

@@ -1,4 +1,6 @@
 // Every small rule book: writes what crate `smallbooks` prints.
+#![tactic(auto)]
+
 ghost use Rattle.std.specs.Prelude.{◌≤◌, length};
 ghost use Rattle.smallbooks.specs.Whole.{max_text};
 

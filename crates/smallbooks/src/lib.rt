@@ -1,4 +1,6 @@
 // Every small rule book: the sets of at most three clauses over V variables, each solved in a fresh run.
+#![tactic(auto)]
+
 ghost use Rattle.std.specs.Prelude.{◌≡◌, ◌+◌, ◌*◌, ◌≤◌, ◌<◌, length};
 ghost use Rattle.text.specs.WriteLaws.{Written};
 ghost use Rattle.std.proofs.lemmas.List.Edits.{sets};
@@ -10,14 +12,14 @@ ghost use Rattle.smallbooks.specs.Tell.{longest, Solved, Choosing, Chose, Listin
 ghost use Rattle.smallbooks.specs.Whole.{table_cells, most_line, Booked, Prints};
 
 // What a run answers to its solve.
-#[derive(Drop)]
+#[derive(Clone, Copy)]
 pub struct Found {
     pub answer: u32,
     pub conflicts: u32,
 }
 
 // How many sets there were, the greatest conflicts, and the number, from 1, of the first set with that many.
-#[derive(Drop)]
+#[derive(Clone, Copy)]
 pub struct Score {
     pub count: u32,
     pub most: u32,
@@ -25,7 +27,7 @@ pub struct Score {
 }
 
 // The text's end, and the score so far.
-#[derive(Drop)]
+#[derive(Clone, Copy)]
 pub struct Told {
     pub at: usize,
     pub score: Score,

@@ -1,4 +1,6 @@
 // The state in one work slice, and the header beside it.
+#![tactic(auto)]
+
 pub mod assignment;
 pub mod clauses;
 pub mod marks;
@@ -10,7 +12,7 @@ use store::StoreHead;
 use trail::TrailHead;
 
 // What never changes: V, C and L.
-#[derive(Drop)]
+#[derive(Clone, Copy)]
 pub struct Sizes {
     pub vars: usize,
     pub room: usize,
@@ -18,7 +20,7 @@ pub struct Sizes {
 }
 
 // What changes beside the slice.
-#[derive(Drop)]
+#[derive(Clone, Copy)]
 pub struct Header {
     pub trail: TrailHead,
     pub store: StoreHead,
@@ -28,7 +30,7 @@ pub struct Header {
 }
 
 // What a script's header says.
-#[derive(Drop)]
+#[derive(Clone, Copy)]
 pub struct Config {
     pub sizes: Sizes,
     pub mode: u32,

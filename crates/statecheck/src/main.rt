@@ -1,4 +1,6 @@
 // Runs the state's functions over one work slice of noise. The gate compares what it writes.
+#![tactic(auto)]
+
 ghost use Rattle.std.specs.Prelude.{◌+◌, ◌*◌, ◌<◌, ◌≤◌, ◌≡◌, length};
 ghost use Rattle.state.specs.WatchLaws.{On, More};
 ghost use Rattle.state.specs.View.{Room, Rep, whole};

@@ -1,18 +1,20 @@
 // The clause store: where each clause starts, and the literals in one row. It stands in a slice of its own.
+#![tactic(auto)]
+
 ghost use Rattle.std.specs.Prelude.{◌≡◌, ◌&&◌, [], ◌+◌, ◌<◌, length, get_or, leb, ltb};
 ghost use Rattle.store.specs.View.{Room, Counts, Rep, Holds, view, clause_of, no_clauses, lit_set, lit_pushed, closed, discarded};
 
 use clause::{Lit, wide};
 
 // What never changes: room for clauses, and for literals.
-#[derive(Drop)]
+#[derive(Clone, Copy)]
 pub struct StoreSize {
     pub room: usize,
     pub lit_room: usize,
 }
 
 // What changes: the stored clauses, their literals, and the literals pushed behind them for the next clause.
-#[derive(Drop)]
+#[derive(Clone, Copy)]
 pub struct StoreHead {
     pub clauses: usize,
     pub literals: usize,

@@ -1,4 +1,6 @@
 // The text of the bench program: lines of keys and numbers, read as a script, and answers printed.
+#![tactic(auto)]
+
 ghost use Rattle.std.specs.Prelude.{◌≡◌, [], ◌∷◌, ◌+◌, ◌≤◌, ◌<◌, min, length, get_or, drop};
 ghost use Rattle.std.proofs.lemmas.List.Edits.{sets};
 ghost use Rattle.text.specs.Split.{before, starts, words};
@@ -14,28 +16,28 @@ ghost use Rattle.model.specs.Script.{trailing};
 ghost use Rattle.text.specs.Answers.{numbered, printed_refusal, item, spaced, listed, verdict, body_key, body, printed_solve, printed_clause, printed_record, answer_cells, printed};
 
 // A word read as a number or a literal.
-#[derive(Drop)]
+#[derive(Clone, Copy)]
 pub enum Number {
     Bad,
     Value(u32),
 }
 
 // A line judged: the number that refuses it, or how many cells it stands for.
-#[derive(Drop)]
+#[derive(Clone, Copy)]
 pub enum Judged {
     Wrong(u32),
     Good(usize),
 }
 
 // A line of the header: the number that refuses it, or its value.
-#[derive(Drop)]
+#[derive(Clone, Copy)]
 pub enum Field {
     Wrong(u32),
     Is(u32),
 }
 
 // A text read: how many cells and records its script has, or its refusal's number and place.
-#[derive(Drop)]
+#[derive(Clone, Copy)]
 pub enum Answer {
     Script { cells: usize, records: usize },
     Refused { number: u32, place: usize },

@@ -1,5 +1,7 @@
 // Steps over a state that test what the layer below asks, and do nothing where it does not hold.
 // What each makes of the header and the blocks is its definition in specs/Steps.antt.
+#![tactic(auto)]
+
 ghost use Rattle.std.specs.Prelude.{◌+◌, ◌*◌, ◌<◌, ◌≤◌, ◌≡◌, length};
 ghost use Rattle.state.specs.View.{Room, whole};
 ghost use Rattle.state.specs.StartLaws.{Started};

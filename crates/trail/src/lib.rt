@@ -1,4 +1,6 @@
 // The assignment: by variable its value, level, reason and phase, and the trail with where each level starts on it. It stands in a slice of its own.
+#![tactic(auto)]
+
 ghost use Rattle.std.specs.Prelude.{◌≡◌, ◌*◌, ◌<◌, ◌≤◌, length, get_or};
 ghost use Rattle.region.specs.Split.{split};
 ghost use Rattle.model.specs.Lit.{var, value_lit};
@@ -7,13 +9,13 @@ ghost use Rattle.trail.specs.View.{shape, Room, Rep, Holds, view, initial_assign
 use clause::{Lit, NO_REASON, UNDEF, Var, wide};
 
 // What never changes: how many variables there are.
-#[derive(Drop)]
+#[derive(Clone, Copy)]
 pub struct TrailSize {
     pub vars: usize,
 }
 
 // What changes: the length of the trail, and the number of levels above level 0.
-#[derive(Drop)]
+#[derive(Clone, Copy)]
 pub struct TrailHead {
     pub assigned: usize,
     pub levels: usize,

@@ -1,1 +1,3 @@
 // Scripts with their out cells, run by the definition.
+
+#![tactic(auto)]

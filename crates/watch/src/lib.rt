@@ -2,6 +2,8 @@
 // literal has two records, whose first cells are links too. The links of a list are, in order, those of the literal's two records and of the list's nodes: the link at
 // place i names the node at place i. So a node's link names the node two places on, and a walk has two links at hand, and need not wait for the next node. The
 // literal's two records have as second cells the two links behind the list's end, which name no node.
+#![tactic(auto)]
+
 ghost use Rattle.std.specs.Prelude.{◌≡◌, ◌+◌, ◌*◌, ◌≤◌, ◌<◌, length, get_or, ltb};
 ghost use Rattle.model.specs.Limits.{max_variables, max_clauses};
 ghost use Rattle.model.specs.Lit.{neg};
@@ -12,7 +14,7 @@ ghost use Rattle.watch.specs.Walk.{Stands, Gone};
 use clause::Lit;
 
 // How many lists, two for each variable, and how many nodes, two for each clause that can be stored.
-#[derive(Drop)]
+#[derive(Clone, Copy)]
 pub struct Lists {
     pub slots: usize,
     pub nodes: usize,
@@ -20,7 +22,7 @@ pub struct Lists {
 
 // A place on a walk through a list: the record whose link names the node there, the record of the next link, and how many nodes have been passed that stayed.
 // No step reads that number; it says in the contracts where the walk is.
-#[derive(Drop)]
+#[derive(Clone, Copy)]
 pub struct Cursor {
     pub at: usize,
     pub after: usize,

@@ -1,6 +1,6 @@
 /* The SAT engine as C sees it. docs/FORMAT.md says what a script and its answers are; this page says how to call.
  *
- * Link target/staticlib/libengine.a (x86-64 Linux, `rt staticlib engine`): cc -Iinclude PROGRAM.c target/staticlib/libengine.a. bindings/c/planner.c is
+ * Link target/staticlib/libengine.a (x86-64 Linux, `tools/staticlib`): cc -Iinclude PROGRAM.c target/staticlib/libengine.a. bindings/c/planner.c is
  * a whole program. The library allocates nothing, keeps nothing between calls, reads no file and calls nothing but C's memset, so calls on different
  * slices may run at the same time.
  *

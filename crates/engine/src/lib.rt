@@ -37,9 +37,8 @@ pub fn run(script: &[u32], work: &mut [u32], activities: &mut [f64], out: &mut [
     }
 }
 
-// `run` for C and Rust: refusal is 0 and the answer the out cells written, or they are a refusal's number and place.
-#[unsafe(no_mangle)]
-pub extern "C" fn engine_run(
+// `run` in numbers, as crate `engine_c` exports it: refusal is 0 and the answer the out cells written, or they are a refusal's number and place.
+pub fn engine_run(
     script: &[u32],
     work: &mut [u32],
     activities: &mut [f64],
@@ -62,24 +61,21 @@ pub extern "C" fn engine_run(
 }
 
 // The work cells that a run asks for, of V variables, C clauses and L literals.
-#[unsafe(no_mangle)]
-pub extern "C" fn engine_work_len(v: u32, c: u32, l: u32) -> u64
+pub fn engine_work_len(v: u32, c: u32, l: u32) -> u64
     ensures { result ≡ work_needed (sized v c l) }
 {
     script::work_len(v, c, l)
 }
 
 // The out cells that a script asks for; 0 where its header or a record is turned back.
-#[unsafe(no_mangle)]
-pub extern "C" fn engine_out_len(script: &[u32]) -> u64
+pub fn engine_out_len(script: &[u32]) -> u64
     ensures { result ≡ out_len_of script.now }
 {
     script::out_len(script)
 }
 
-// The clauses that say 'at most k of these literals', as records, for C and Rust: refusal is 0 and the answer the cells written, or they are a refusal's number and place.
-#[unsafe(no_mangle)]
-pub extern "C" fn engine_at_most(
+// The clauses that say 'at most k of these literals', as records: refusal is 0 and the answer the cells written, or they are a refusal's number and place.
+pub fn engine_at_most(
     v: u32,
     literals: &[u32],
     k: u32,
@@ -106,8 +102,7 @@ pub extern "C" fn engine_at_most(
 }
 
 // The cells that the clauses for n literals take; 0 for more literals than a call may have.
-#[unsafe(no_mangle)]
-pub extern "C" fn engine_at_most_len(n: u32, k: u32) -> u64
+pub fn engine_at_most_len(n: u32, k: u32) -> u64
     ensures { result ≡ len_of n k }
 {
     counter::len(n, k)

@@ -121,8 +121,7 @@ fn walks(d: Sizes, h: Header, work: &[u32], l: Lit, n: u32) -> u64
 }
 
 // n levels, each filled with the literals of `order` and taken back: how many literals were put on the trail. With 64 variables. The slice is left zero.
-#[unsafe(no_mangle)]
-pub extern "C" fn leaf_trail(work: &mut [u32], order: &[u32], n: u32) -> u64
+pub fn leaf_trail(work: &mut [u32], order: &[u32], n: u32) -> u64
     ensures value { result ≡ leaf_trail (length work.old) order.now n }
     ensures work_after { work.new ≡ leaf_work work.old (length order.now) }
 {
@@ -144,8 +143,7 @@ pub extern "C" fn leaf_trail(work: &mut [u32], order: &[u32], n: u32) -> u64
 }
 
 // n walks of a list of 32 nodes, where the literals of `order` are true: how many true blockers were met. The slice is left zero.
-#[unsafe(no_mangle)]
-pub extern "C" fn leaf_watch(work: &mut [u32], order: &[u32], n: u32) -> u64
+pub fn leaf_watch(work: &mut [u32], order: &[u32], n: u32) -> u64
     ensures value { result ≡ leaf_watch (length work.old) order.now n }
     ensures work_after { work.new ≡ leaf_work work.old (length order.now) }
 {

@@ -9,9 +9,9 @@ use activity::Choice;
 use clause::{Lit, Var};
 use litset::{Head, Size};
 
-fn number(n: u64) {
-    io::print_decimal(1, n);
-    io::write_all(1, b" ");
+// What cannot be written is left out: the gate then finds that it is missing.
+fn number(rt: &impl Print, n: u64) {
+    let _ = print!(rt; "{n} ");
 }
 
 fn wide(x: u32) -> u64 {
@@ -19,27 +19,27 @@ fn wide(x: u32) -> u64 {
 }
 
 // A float's bits, or a dash for a NaN.
-fn bits(x: f64) {
+fn bits(rt: &impl Print, x: f64) {
     if x == x {
-        io::print_hex(1, f64::to_bits(x), 16);
-        io::write_all(1, b" ");
+        let n = f64::to_bits(x);
+        let _ = print!(rt; "{n:016x} ");
     } else {
-        io::write_all(1, b"- ");
+        let _ = print!(rt; "- ");
     }
 }
 
-fn line() {
-    io::write_all(1, b"\n");
+fn line(rt: &impl Print) {
+    let _ = println!(rt);
 }
 
 // Terms first to end - 1.
-fn terms(first: u32, end: u32)
+fn terms(rt: &impl Print, first: u32, end: u32)
     requires { (first ≤ end) × (end < 131072) }
 {
     for x in first..end {
-        number(luby::luby(x) as u64);
+        number(rt, luby::luby(x) as u64);
     }
-    line();
+    line(rt);
 }
 
 // Variable v is bumped n times, with a decay after each.
@@ -53,37 +53,37 @@ fn bumps(act: &mut [f64], v: Var, inc: f64, n: u32) -> f64
     step
 }
 
-fn activities(act: &[f64], inc: f64) {
+fn activities(rt: &impl Print, act: &[f64], inc: f64) {
     for i in 0..act.len() {
-        bits(act[i]);
+        bits(rt, act[i]);
     }
-    bits(inc);
-    line();
+    bits(rt, inc);
+    line(rt);
 }
 
 // What is picked: a variable, or the number of variables where none is.
-fn picked<'a>(values: &'a [u32; 3], act: &'a [f64])
+fn picked<'a>(rt: &impl Print, values: &'a [u32; 3], act: &'a [f64])
     requires { 3 ≤ length act.now }
 {
     let c = activity::pick(values, act);
     if let Choice::Of(v) = c {
-        number(wide(v.0));
+        number(rt, wide(v.0));
     } else {
-        number(3);
+        number(rt, 3);
     }
 }
 
 // The pick where all variables are unset, only the first, and none.
-fn picks(act: &[f64])
+fn picks(rt: &impl Print, act: &[f64])
     requires { 3 ≤ length act.now }
 {
     let all = [2u32, 2, 2];
-    picked(&all, act);
+    picked(rt, &all, act);
     let first = [2u32, 0, 1];
-    picked(&first, act);
+    picked(rt, &first, act);
     let none = [0u32, 1, 0];
-    picked(&none, act);
-    line();
+    picked(rt, &none, act);
+    line(rt);
 }
 
 // One member more, where there is room.
@@ -99,15 +99,15 @@ fn put(d: Size, h: Head, s: &mut [u32], l: u32) -> Head
     h
 }
 
-fn members(d: Size, h: Head, s: &[u32])
+fn members(rt: &impl Print, d: Size, h: Head, s: &[u32])
     requires { Rep d h s.now }
 {
-    number(litset::len(d, h, s) as u64);
+    number(rt, litset::len(d, h, s) as u64);
     let m = litset::items(d, h, s);
     for i in 0..m.len() {
-        number(wide(m[i]));
+        number(rt, wide(m[i]));
     }
-    line();
+    line(rt);
 }
 
 // Three literals, one of them twice.
@@ -122,29 +122,29 @@ fn three(d: Size, h: Head, s: &mut [u32]) -> Head
 }
 
 // A set that is filled, cleared, and has one literal again.
-fn sets(d: Size, s: &mut [u32])
+fn sets(rt: &impl Print, d: Size, s: &mut [u32])
     requires { total (shape d) ≤ length s.old }
 {
     let a = litset::start(d, s);
     let b = three(d, a, s);
-    members(d, b, s);
+    members(rt, d, b, s);
     let c = litset::clear(d, b, s);
-    members(d, c, s);
+    members(rt, d, c, s);
     let e = put(d, c, s, 5);
-    members(d, e, s);
+    members(rt, d, e, s);
 }
 
-fn main() {
-    terms(0, 15);
-    terms(1021, 1026);
-    terms(2044, 2048);
+fn main(rt: HostRuntime) {
+    terms(&rt, 0, 15);
+    terms(&rt, 1021, 1026);
+    terms(&rt, 2044, 2048);
     let mut act = [1.0f64; 3];
     let inc = activity::initial(&mut act);
     let once = bumps(&mut act, Var(1), inc, 1);
-    activities(&act, once);
+    activities(&rt, &act, once);
     let more = bumps(&mut act, Var(2), once, 5000);
-    activities(&act, more);
-    picks(&act);
+    activities(&rt, &act, more);
+    picks(&rt, &act);
     let mut cells = [7u32; 10];
-    sets(Size { lits: 6, room: 4 }, &mut cells);
+    sets(&rt, Size { lits: 6, room: 4 }, &mut cells);
 }

@@ -3,7 +3,7 @@ use Rattle.std.specs.Prelude.{◌≡◌, refl, List, ℕ}
 use Rattle.model.specs.Exec.{out_of}
 use Rattle.model.specs.Script.{limits, trailing}
 use Rattle.text.specs.Bytes.{bytes}
-use Rattle.text.specs.Split.{push, pieces, starts, before}
+use Rattle.text.specs.Split.{push, pieces, starts}
 use Rattle.text.specs.Number.{digit, digits, decimal, signed, literal, digits_of, shown, shown_literal}
 use Rattle.text.specs.Number as Number
 use Rattle.text.specs.Format.{

@@ -59,23 +59,23 @@ unfolding answered
 answered_ran cells x n e = rw (← e, answered)
 
 module _ {s w : List ℕ} {a : List Float} {o w' : List ℕ} {a' : List Float} {o' : List ℕ} {r : engine.Answer} (p : Runs s w a o r w' a' o') where
-  pub run_refused : (number place : ℕ) → r ≡ engine-answer.Refused number place → printed_refusal number place ≡ answered s (after s w a o)
+  pub run_refused : (number place : ℕ) → r ≡ engine_answer.Refused number place → printed_refusal number place ≡ answered s (after s w a o)
   run_refused number place e = sym (answered_refused s (after s w a o) number place (sym (ap answer_of e) ∙ p.answer))
 
-  pub run_ran : (n : ℕ) (lines : List ℕ) → r ≡ engine-answer.Ran n → lines ≡ record_lines max_cells → printed s lines o' ≡ answered s (after s w a o)
+  pub run_ran : (n : ℕ) (lines : List ℕ) → r ≡ engine_answer.Ran n → lines ≡ record_lines max_cells → printed s lines o' ≡ answered s (after s w a o)
   run_ran n lines e l =
       ap (λ (ls : List ℕ). printed s ls o') l ∙ ap (printed s (record_lines max_cells)) p.out
       ∙ sym (answered_ran s (after s w a o) n (sym (ap answer_of e) ∙ p.answer))
 
 -- ---- the text as it is read
 
-refused_of : (w : List ℕ) (a : List Float) (o : List ℕ) (x : Reading) (number place : ℕ) → text-answer.Refused number place ≡ read.answer_of x
+refused_of : (w : List ℕ) (a : List Float) (o : List ℕ) (x : Reading) (number place : ℕ) → text_answer.Refused number place ≡ read.answer_of x
     → printed_refusal number place ≡ shown w a o x
 unfolding shown
 refused_of w a o (refused m q before) number place e = cc
 refused_of w a o (script xs k) number place e = let z : ◌≡◌ {A = ℕ} 0 1 = cc in absurd (omega arith)
 
-script_of : (x : Reading) (n k : ℕ) → text-answer.Script n k ≡ read.answer_of x → (xs : List ℕ) × (x ≡ script xs k) × (length xs ≡ n)
+script_of : (x : Reading) (n k : ℕ) → text_answer.Script n k ≡ read.answer_of x → (xs : List ℕ) × (x ≡ script xs k) × (length xs ≡ n)
 script_of (refused m q before) n k e = let z : ◌≡◌ {A = ℕ} 0 1 = cc in absurd (omega arith)
 script_of (script xs j) n k e = (xs, cc, cc)
 
@@ -84,11 +84,11 @@ module _ (input : List ℕ) {before behind : List ℕ} {r : text.Answer} (h : le
   p : Read (read_text max_cells input) before behind r
   p = subst (λ (room : ℕ). Read (read_text room input) before behind r) (omega (arith, h)) q
 
-  pub text_refused : (w : List ℕ) (a : List Float) (o : List ℕ) (number place : ℕ) → r ≡ text-answer.Refused number place
+  pub text_refused : (w : List ℕ) (a : List Float) (o : List ℕ) (number place : ℕ) → r ≡ text_answer.Refused number place
       → printed_refusal number place ≡ shown w a o (read_text max_cells input)
   text_refused w a o number place e = refused_of w a o (read_text max_cells input) number place (sym e ∙ p.answer)
 
-  module _ (n k : ℕ) (e : r ≡ text-answer.Script n k) where
+  module _ (n k : ℕ) (e : r ≡ text_answer.Script n k) where
     -- the script stands first in its slice
     stored : (xs : List ℕ) × (read_text max_cells input ≡ script xs k) × (length xs ≡ n) × (behind ≡ xs ++ drop (length xs) before)
     stored =

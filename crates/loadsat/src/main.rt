@@ -1,12 +1,16 @@
 // The bench program of document 01: reads a text of clauses and solves from standard input, runs it, and writes the answers, or why the text is refused.
 #![tactic(auto)]
 
-ghost use Rattle.std.specs.Prelude.{◌-◌, ◌≤◌, ◌<◌, ◌≡◌, length};
+ghost use Rattle.std.specs.Prelude.{◌-◌, ◌≤◌, ◌<◌, ◌≡◌, length, take, drop, replicate, IfSome};
 ghost use Rattle.model.specs.Run.{after};
 ghost use Rattle.text.specs.Limits.{max_cells, max_bytes};
 ghost use Rattle.text.specs.Format.{read_text};
 ghost use Rattle.loadsat.specs.Bench.{answered, shown, output, Printed};
-ghost use Rattle.loadsat.specs.Reads.{step_of, Within, In};
+ghost use Rattle.loadsat.specs.Reads.{step_of, Within, Taken, In, Holds};
+ghost use Rattle.loadsat.specs.Responses.{Silent, Responds};
+
+use std::io;
+use std::io::{Read, Write};
 
 // A script's answers; `lines` is for the line of each record.
 fn run(
@@ -53,16 +57,23 @@ fn answer(
     }
 }
 
+// So many of one value. A long array that a call makes is not spelled out in a proof.
+fn filled<T: Copy, const N: usize>(value: T) -> [T; N]
+    ensures { result ≡ replicate N value }
+{
+    [value; N]
+}
+
 // What is written for an input.
 fn bench(input: &[u8], text: &mut [u8]) -> usize
     requires { max_bytes ≤ length text.old }
     ensures { Printed text.old (output input.now) text.new result }
 {
-    let mut script = [0u32; 16384];
-    let mut lines = [0u32; 16384];
-    let mut work = [0u32; 12352];
-    let mut activities = [0.0f64; 128];
-    let mut out = [0u32; 16384];
+    let mut script = filled::<u32, 16384>(0);
+    let mut lines = filled::<u32, 16384>(0);
+    let mut work = filled::<u32, 12352>(0);
+    let mut activities = filled::<f64, 128>(0.0);
+    let mut out = filled::<u32, 16384>(0);
     answer(
         input,
         &mut script,
@@ -82,34 +93,37 @@ enum Step {
     More(usize),
 }
 
-// A read's answer, as C gives it, and the bytes that it was to read into.
-fn judged(got: isize, bytes: &[u8]) -> Step
+// A read's answer, and the bytes that it was to read into.
+fn judged(got: io::Result<usize>, bytes: &[u8]) -> Step
     ensures { result ≡ step_of (length bytes.now) got }
 {
-    if got < 0 {
+    let Ok(n) = got else {
         return Step::Failed;
-    }
-    let k = io::count(got, bytes);
+    };
+    let k = n.min(bytes.len());
     if k == 0 {
         return Step::End;
     }
     Step::More(k)
 }
 
-// One read of standard input.
-fn read_some(bytes: &mut [u8]) -> Step
-    ensures { Within (length bytes.new) result }
+// One read.
+fn read_some<R: Read>(from: &mut R, bytes: &mut [u8]) -> Step
+    ensures within { Within (length bytes.new) result }
+    ensures taken { Taken (R.remaining from.old) (R.remaining from.new) bytes.new result }
 {
-    let got = libc::read(libc::STDIN_FILENO, bytes);
+    let got = from.read(bytes);
     judged(got, bytes)
 }
 
 // The same, into the bytes from n on.
-fn read_on(input: &mut [u8], n: usize) -> Step
+fn read_on<R: Read>(from: &mut R, input: &mut [u8], n: usize) -> Step
     requires { n < length input.old }
-    ensures { Within (length input.old - n) result }
+    ensures within { Within (length input.old - n) result }
+    ensures before { take n input.new ≡ take n input.old }
+    ensures taken { Taken (R.remaining from.old) (R.remaining from.new) (drop n input.new) result }
 {
-    read_some(&mut input[n..])
+    read_some(from, &mut input[n..])
 }
 
 // An input: all of its bytes, which are so many, or as many as there is room for; or no input, since a read failed.
@@ -119,13 +133,14 @@ enum Input {
     Whole(usize),
 }
 
-// Reads standard input to its end, or until the slice is full. What came before a read that fails is no input.
-fn read_all(input: &mut [u8]) -> Input
-    ensures { In (length input.new) result }
+// Reads to the input's end, or until the slice is full. What came before a read that fails is no input.
+fn read_all<R: Read>(from: &mut R, input: &mut [u8]) -> Input
+    ensures within { In (length input.new) result }
+    ensures bytes { IfSome (R.remaining from.old) (λ xs. Holds xs input.new result) }
 {
     let mut n = 0;
     while n < input.len() {
-        let step = read_on(input, n);
+        let step = read_on(from, input, n);
         match step {
             Step::Failed => return Input::Cut,
             Step::End => return Input::Whole(n),
@@ -135,32 +150,74 @@ fn read_all(input: &mut [u8]) -> Input
     Input::Whole(n)
 }
 
-// Says on standard error what went wrong; if that cannot be written either, nobody is told.
-fn complain(what: &[u8]) {
-    io::write_all(libc::STDERR_FILENO, what);
+// What became of an input: it could not be read to its end, and nothing was written; its answers were written; or not all of them could be.
+#[derive(Clone, Copy)]
+enum Outcome {
+    Unanswered,
+    Answered,
+    Broken,
 }
 
-// From standard input to standard output. Of a text that is too long, more is read than a text may have, so that it is seen to be too long. An input
-// that cannot be read to its end is not answered: nothing is written to standard output.
-fn serve(input: &mut [u8], text: &mut [u8])
+// Of a text that is too long, more is read than a text may have, so that it is seen to be too long.
+fn respond<R: Read, W: Write>(
+    from: &mut R,
+    to: &mut W,
+    input: &mut [u8],
+    text: &mut [u8],
+) -> Outcome
     requires { (max_bytes < length input.old) × (max_bytes ≤ length text.old) }
+    ensures silent { Silent (W.contents to.old) (W.contents to.new) result }
+    ensures answers { IfSome (R.remaining from.old) (λ xs. Responds xs (W.contents to.old) (W.contents to.new) result) }
 {
-    let whole = read_all(input);
-    match whole {
-        Input::Cut => complain(
-            b"loadsat: the input could not be read to its end, and is not answered\n",
-        ),
+    match read_all(from, input) {
+        Input::Cut => Outcome::Unanswered,
         Input::Whole(n) => {
             let m = bench(&input[..n], text);
-            if !io::write_all(libc::STDOUT_FILENO, &text[..m]) {
-                complain(b"loadsat: the answers could not be written to their end\n");
+            match to.write_all(&text[..m]) {
+                Ok(()) => Outcome::Answered,
+                Err(_) => Outcome::Broken,
             }
         }
     }
 }
 
-fn main() {
-    let mut input = [0u8; 1048577];
-    let mut text = [0u8; 1048576];
-    serve(&mut input, &mut text);
+// Says on standard error what went wrong; if that cannot be written either, nobody is told.
+fn complain(rt: &impl Eprint, what: &str) {
+    let _ = rt.eprint(what);
+}
+
+// An input that cannot be read to its end is not answered: nothing is written where the answers go.
+fn serve<R: Read, W: Write>(
+    rt: &impl Eprint,
+    from: &mut R,
+    to: &mut W,
+    input: &mut [u8],
+    text: &mut [u8],
+)
+    requires { (max_bytes < length input.old) × (max_bytes ≤ length text.old) }
+{
+    match respond(from, to, input, text) {
+        Outcome::Unanswered => complain(
+            rt,
+            "loadsat: the input could not be read to its end, and is not answered\n",
+        ),
+        Outcome::Broken => complain(
+            rt,
+            "loadsat: the answers could not be written to their end\n",
+        ),
+        Outcome::Answered => (),
+    }
+}
+
+// From standard input to standard output.
+fn main(rt: HostRuntime) {
+    let mut input = filled::<u8, 1048577>(0);
+    let mut text = filled::<u8, 1048576>(0);
+    serve(
+        &rt,
+        &mut rt.stdin(),
+        &mut rt.stdout(),
+        &mut input,
+        &mut text,
+    );
 }

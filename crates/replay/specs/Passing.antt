@@ -1,5 +1,5 @@
 -- A vector passes exactly when the run over noise is what it wants: the answer, and every cell of the three slices.
-use Rattle.std.specs.Prelude.{◌≡◌, ℕ, zero, suc, true, ◌&&◌, T, List, ◌++◌, length, drop, replicate, ◌==◌, refl, Float}
+use Rattle.std.specs.Prelude.{◌≡◌, ℕ, zero, suc, true, ◌&&◌, T, List, ◌++◌, drop, replicate, ◌==◌, refl, Float}
 use Rattle.std.proofs.Common.{sym, ap, subst, eq-eqb, eqb-true}
 use Rattle.model.specs.State.{f64_zero}
 use Rattle.model.specs.Script.{header}

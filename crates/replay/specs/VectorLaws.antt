@@ -171,17 +171,17 @@ module _ (s cells : List ℕ) (place work activities out : ℕ) where
         → false ≡ passes s refusal place cells work activities out
     fails x e f = disagree record { answer = x; work = w'; activities = a'; out = o' } (wanted s refusal place cells work activities out) f ∙ passes_by x e
 
-    pub fails_ran : (n : ℕ) → r ≡ engine-answer.Ran n → (refusal ≢ 0) → false ≡ passes s refusal place cells work activities out
+    pub fails_ran : (n : ℕ) → r ≡ engine_answer.Ran n → (refusal ≢ 0) → false ≡ passes s refusal place cells work activities out
     fails_ran n e h = fails (ran n) (ap answer_of e) (other_than_run refusal n h)
 
-    pub fails_number : (m q : ℕ) → r ≡ engine-answer.Refused m q → (refusal ≢ m) → false ≡ passes s refusal place cells work activities out
+    pub fails_number : (m q : ℕ) → r ≡ engine_answer.Refused m q → (refusal ≢ m) → false ≡ passes s refusal place cells work activities out
     fails_number m q e h = fails (turned_back m q) (ap answer_of e) (other_number refusal m q h)
 
-    pub fails_place : (m q : ℕ) → r ≡ engine-answer.Refused m q → (place ≢ q) → false ≡ passes s refusal place cells work activities out
+    pub fails_place : (m q : ℕ) → r ≡ engine_answer.Refused m q → (place ≢ q) → false ≡ passes s refusal place cells work activities out
     fails_place m q e h = fails (turned_back m q) (ap answer_of e) (other_place refusal m q h)
 
     module _ (lw : length w' ≡ work) (la : length a' ≡ activities) (lo : length o' ≡ out) where
-      pub passes_ran : (n : ℕ) (b : Bool) → r ≡ engine-answer.Ran n → refusal ≡ 0 → b ≡ is_run s cells n w' a' o' → b ≡ passes s refusal place cells work activities out
+      pub passes_ran : (n : ℕ) (b : Bool) → r ≡ engine_answer.Ran n → refusal ≡ 0 → b ≡ is_run s cells n w' a' o' → b ≡ passes s refusal place cells work activities out
       unfolding is_run
       passes_ran n b e z p = p ∙ run_agrees ∙ ap (agrees (record { answer = ran n; work = w'; activities = a'; out = o' })) any_place ∙ passes_by (ran n) (ap answer_of e)
         where
@@ -191,7 +191,7 @@ module _ (s cells : List ℕ) (place work activities out : ℕ) where
           any_place : wanted s 0 0 cells work activities out ≡ wanted s refusal place cells work activities out
           any_place = wanted-run s cells place work activities out refusal z
 
-      pub passes_refused : (m q : ℕ) (b : Bool) → r ≡ engine-answer.Refused m q → refusal ≡ m → place ≡ q → b ≡ untouched w' a' o' → b ≡ passes s refusal place cells work activities out
+      pub passes_refused : (m q : ℕ) (b : Bool) → r ≡ engine_answer.Refused m q → refusal ≡ m → place ≡ q → b ≡ untouched w' a' o' → b ≡ passes s refusal place cells work activities out
       passes_refused m q b e f g p =
           p ∙ untouched-agrees w' a' o' m q refusal place f g ∙ rw (lw, la, lo) (rw (← wanted_refusal refusal some) (passes_by (turned_back m q) (ap answer_of e)))
         where

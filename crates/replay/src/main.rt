@@ -4,7 +4,7 @@
 // lengths of work, activities and out; the number and the place of the refusal, or 0 and 0; how many cells the script has; these cells; the out cells.
 #![tactic(auto)]
 
-ghost use Rattle.std.specs.Prelude.{◌≡◌, ◌+◌, ◌≤◌, ◌++◌, length, take, drop, replicate};
+ghost use Rattle.std.specs.Prelude.{◌≡◌, ◌+◌, ◌^◌, ◌<◌, ◌≤◌, ◌++◌, length, take, drop, replicate};
 ghost use Rattle.model.specs.Script.{header};
 ghost use Rattle.text.specs.Split.{before, lines};
 ghost use Rattle.replay.specs.Lines.{line_numbers, line_holds, one, added, all_scripts, tallied, Grouped};
@@ -12,6 +12,7 @@ ghost use Rattle.replay.specs.Vector.{cleared, is_run, untouched, passes, vector
 ghost use Rattle.replay.specs.Cells.{noise, noise_cells, noise_floats, cell_behind, cell_clear, float, like, same, same_floats};
 
 use engine::Answer;
+use std::io::Read;
 
 // ---- noise: never 0, and never the same in two cells next to each other
 
@@ -285,29 +286,29 @@ fn sum(a: Tally, b: Tally) -> Tally
     ensures { result ≡ added a b }
 {
     Tally {
-        passed: std::num::wrapping_add_u64(a.passed, b.passed),
-        failed: std::num::wrapping_add_u64(a.failed, b.failed),
+        passed: a.passed.wrapping_add(b.passed),
+        failed: a.failed.wrapping_add(b.failed),
     }
 }
 
-fn show(title: &[u8], t: Tally) {
-    io::write_all(1, title);
-    io::write_all(1, b": ");
-    io::print_decimal(1, t.passed);
-    io::write_all(1, b" passed, ");
-    io::print_decimal(1, t.failed);
-    io::write_all(1, b" failed\n");
+// What cannot be written is left out: the gate then finds that it is missing.
+fn show(rt: &impl Print, title: &[u8], t: Tally) {
+    let _ = rt.write_all(title);
+    let passed = t.passed;
+    let failed = t.failed;
+    let _ = println!(rt; ": {passed} passed, {failed} failed");
 }
 
-fn show_failed(line: &[u8]) {
+fn show_failed(rt: &impl Print, line: &[u8]) {
     let end = end_of(line, 0, 32);
-    io::write_all(1, b"FAILED ");
-    io::write_all(1, &line[..end]);
-    io::write_all(1, b"\n");
+    let _ = rt.print("FAILED ");
+    let _ = rt.write_all(&line[..end]);
+    let _ = println!(rt);
 }
 
 // One script.
 fn script(
+    rt: &impl Print,
     line: &[u8],
     cells: &mut [u32],
     work: &mut [u32],
@@ -323,7 +324,7 @@ fn script(
             failed: 0,
         };
     }
-    show_failed(line);
+    show_failed(rt, line);
     Tally {
         passed: 0,
         failed: 1,
@@ -339,6 +340,7 @@ struct Counted {
 
 // The scripts from a place on, up to the next group.
 fn group(
+    rt: &impl Print,
     input: &[u8],
     from: usize,
     cells: &mut [u32],
@@ -358,7 +360,7 @@ fn group(
         if text::starts(&input[at..end], b"group ") {
             return Counted { tally: t, end: at };
         }
-        t = sum(t, script(&input[at..end], cells, work, activities, out));
+        t = sum(t, script(rt, &input[at..end], cells, work, activities, out));
         at = end + 1;
     }
     Counted { tally: t, end: at }
@@ -366,6 +368,7 @@ fn group(
 
 // All groups, a line for each; and all of them counted.
 fn groups(
+    rt: &impl Print,
     input: &[u8],
     cells: &mut [u32],
     work: &mut [u32],
@@ -381,9 +384,9 @@ fn groups(
     let mut at: usize = 0;
     while at < input.len() {
         let end = end_of(input, at, 10);
-        let g = group(input, end + 1, cells, work, activities, out);
+        let g = group(rt, input, end + 1, cells, work, activities, out);
         let t = g.tally;
-        show(&input[at..end], t);
+        show(rt, &input[at..end], t);
         all = sum(all, t);
         at = g.end;
     }
@@ -391,38 +394,80 @@ fn groups(
 }
 
 fn replay(
+    rt: &impl Print,
     input: &[u8],
     cells: &mut [u32],
     work: &mut [u32],
     activities: &mut [f64],
     out: &mut [u32],
 ) {
-    let all = groups(input, cells, work, activities, out);
-    show(b"all", all);
+    let all = groups(rt, input, cells, work, activities, out);
+    show(rt, b"all", all);
 }
 
-// From standard input, which must leave a byte of its slice free: else it may be cut off.
-fn serve(
+// Reads until the slice is full, the input ends or a read fails: how many bytes were put at the start of the slice.
+fn read_full<R: Read>(from: &mut R, input: &mut [u8]) -> usize
+    ensures { result ≤ length input.new }
+{
+    let mut n = 0;
+    while n < input.len() {
+        let Ok(k) = from.read(&mut input[n..]) else {
+            break;
+        };
+        if k == 0 {
+            break;
+        }
+        n += k;
+    }
+    n
+}
+
+// From where the input comes, which must leave a byte of its slice free: else it may be cut off.
+fn serve<R: Read>(
+    rt: &impl Print,
+    from: &mut R,
     input: &mut [u8],
     cells: &mut [u32],
     work: &mut [u32],
     activities: &mut [f64],
     out: &mut [u32],
 ) {
-    let n = io::read_full(0, input);
+    let n = read_full(from, input);
     if n == input.len() {
-        io::write_all(1, b"too long\n");
+        let _ = rt.println("too long");
         return;
     }
-    replay(&input[..n], cells, work, activities, out);
+    replay(rt, &input[..n], cells, work, activities, out);
 }
 
-fn main() {
-    let mut input = [0u8; 524288];
-    let mut cells = [0u32; 16384];
-    // the most that a script can ask for, and 16 cells behind it
-    let mut work = [0u32; 1704008];
-    let mut activities = [0.0f64; 4112];
-    let mut out = [0u32; 16384];
-    serve(&mut input, &mut cells, &mut work, &mut activities, &mut out);
+// The same, with slices of so many cells. A proof does not spell out arrays whose lengths are parameters.
+fn serve_with<
+    P: Print,
+    R: Read,
+    const INPUT: usize,
+    const CELLS: usize,
+    const WORK: usize,
+    const ACTIVITIES: usize,
+>(rt: &P, from: &mut R)
+    requires { (INPUT < 2 ^ 32) × (CELLS < 2 ^ 32) × (WORK < 2 ^ 32) × (ACTIVITIES < 2 ^ 32) }
+{
+    let mut input = [0u8; INPUT];
+    let mut cells = [0u32; CELLS];
+    let mut work = [0u32; WORK];
+    let mut activities = [0.0f64; ACTIVITIES];
+    let mut out = [0u32; CELLS];
+    serve(
+        rt,
+        from,
+        &mut input,
+        &mut cells,
+        &mut work,
+        &mut activities,
+        &mut out,
+    );
+}
+
+fn main(rt: HostRuntime) {
+    // the work cells and the activities: the most that a script can ask for, and 16 behind it
+    serve_with::<_, _, 524288, 16384, 1704008, 4112>(&rt, &mut rt.stdin());
 }

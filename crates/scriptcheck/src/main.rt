@@ -3,64 +3,59 @@
 
 use script::Judgement;
 
-fn show(j: Judgement) {
-    match j {
-        Judgement::Refused { number, place } => {
-            io::print_decimal(1, number as u64);
-            io::write_all(1, b" ");
-            io::print_decimal(1, place);
-            io::write_all(1, b"\n");
-        },
-        Judgement::Accepted => {
-            io::write_all(1, b"accepted\n");
-        },
-    }
+// What cannot be written is left out: the gate then finds that it is missing.
+fn show(rt: &impl Print, j: Judgement) {
+    let _ = match j {
+        Judgement::Refused { number, place } => println!(rt; "{number} {place}"),
+        Judgement::Accepted => println!(rt; "accepted"),
+    };
 }
 
 // With slices that hold all that a script of 2 variables, 8 clauses and 64 literals needs, and an out of 8 cells.
-fn show_small(script: &[u32]) {
-    show(script::judge(script, 256, 2, 8));
+fn show_small(rt: &impl Print, script: &[u32]) {
+    show(rt, script::judge(script, 256, 2, 8));
 }
 
-fn headers() {
+fn headers(rt: &impl Print) {
     // 1: under 6 cells
-    show_small(&[2, 8, 64, 2, 2]);
+    show_small(rt, &[2, 8, 64, 2, 2]);
     // 2: no variable, and one too many
-    show_small(&[0, 8, 64, 2, 2, 100]);
-    show_small(&[4097, 8, 64, 2, 2, 100]);
+    show_small(rt, &[0, 8, 64, 2, 2, 100]);
+    show_small(rt, &[4097, 8, 64, 2, 2, 100]);
     // 3: clauses, then literals
-    show_small(&[2, 65536, 1048577, 2, 2, 100]);
-    show_small(&[2, 8, 1048577, 2, 2, 100]);
+    show_small(rt, &[2, 65536, 1048577, 2, 2, 100]);
+    show_small(rt, &[2, 8, 1048577, 2, 2, 100]);
     // 4: mode, phase, unit
-    show_small(&[2, 8, 64, 3, 3, 0]);
-    show_small(&[2, 8, 64, 2, 3, 0]);
-    show_small(&[2, 8, 64, 2, 2, 0]);
+    show_small(rt, &[2, 8, 64, 3, 3, 0]);
+    show_small(rt, &[2, 8, 64, 2, 3, 0]);
+    show_small(rt, &[2, 8, 64, 2, 2, 0]);
     // 5: work, and 6: activities
-    show_small(&[2, 9, 64, 2, 2, 100]);
-    show(script::judge(&[2, 8, 64, 2, 2, 100], 256, 1, 8));
+    show_small(rt, &[2, 9, 64, 2, 2, 100]);
+    show(rt, script::judge(&[2, 8, 64, 2, 2, 100], 256, 1, 8));
 }
 
-fn records() {
+fn records(rt: &impl Print) {
     // 7: kind
-    show_small(&[2, 8, 64, 2, 2, 100, 3, 0]);
+    show_small(rt, &[2, 8, 64, 2, 2, 100, 3, 0]);
     // 8: no count, 10 before 8, and 8: cut off
-    show_small(&[2, 8, 64, 2, 2, 100, 1]);
-    show_small(&[2, 8, 64, 2, 2, 100, 1, 5]);
-    show_small(&[2, 8, 64, 2, 2, 100, 2, 1, 0]);
+    show_small(rt, &[2, 8, 64, 2, 2, 100, 1]);
+    show_small(rt, &[2, 8, 64, 2, 2, 100, 1, 5]);
+    show_small(rt, &[2, 8, 64, 2, 2, 100, 2, 1, 0]);
     // 9: the second literal
-    show_small(&[2, 8, 64, 2, 2, 100, 1, 2, 3, 4]);
+    show_small(rt, &[2, 8, 64, 2, 2, 100, 1, 2, 3, 4]);
     // 11: budget
-    show_small(&[2, 8, 64, 2, 2, 100, 2, 0, 1000001]);
+    show_small(rt, &[2, 8, 64, 2, 2, 100, 2, 0, 1000001]);
     // 12: out
-    show_small(&[2, 8, 64, 2, 2, 100, 2, 0, 1, 1, 0, 1, 0, 1, 0]);
+    show_small(rt, &[2, 8, 64, 2, 2, 100, 2, 0, 1, 1, 0, 1, 0, 1, 0]);
     // accepted: no record, 2 x V assumptions, and out just long enough
-    show_small(&[2, 8, 64, 2, 2, 100]);
-    show_small(&[2, 8, 64, 2, 2, 100, 2, 4, 0, 1, 2, 3, 1000000]);
-    show_small(&[2, 8, 64, 2, 2, 100, 2, 0, 1, 1, 0, 1, 0]);
+    show_small(rt, &[2, 8, 64, 2, 2, 100]);
+    show_small(rt, &[2, 8, 64, 2, 2, 100, 2, 4, 0, 1, 2, 3, 1000000]);
+    show_small(rt, &[2, 8, 64, 2, 2, 100, 2, 0, 1, 1, 0, 1, 0]);
 }
 
-fn main() {
-    check::expect(script::work_len(2, 8, 64) == 256);
-    headers();
-    records();
+fn main(rt: HostRuntime) {
+    let cells = script::work_len(2, 8, 64);
+    prove!(cells == 256);
+    headers(&rt);
+    records(&rt);
 }

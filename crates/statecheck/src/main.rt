@@ -10,9 +10,13 @@ use clause::{Lit, NO_REASON, Var};
 use state::{Header, Sizes, assignment, clauses, marks, start, watches};
 use watch::Cursor;
 
-fn number(n: u64) {
-    io::print_decimal(1, n);
-    io::write_all(1, b" ");
+// What cannot be written is left out: the gate then finds that it is missing.
+fn put(rt: &impl Print, text: &str) {
+    let _ = rt.print(text);
+}
+
+fn number(rt: &impl Print, n: u64) {
+    let _ = print!(rt; "{n} ");
 }
 
 fn wide(x: u32) -> u64 {
@@ -20,131 +24,131 @@ fn wide(x: u32) -> u64 {
 }
 
 // A variable's value, level, reason and phase; a dash where there is no reason.
-fn variable(d: Sizes, h: Header, work: &[u32], v: Var)
+fn variable(rt: &impl Print, d: Sizes, h: Header, work: &[u32], v: Var)
     requires rep { Rep d h work.now }
     requires v_lt_vars { v.0 < d.vars }
 {
-    number(wide(assignment::var_value(d, h, work, v)));
-    number(assignment::level(d, h, work, v) as u64);
+    number(rt, wide(assignment::var_value(d, h, work, v)));
+    number(rt, assignment::level(d, h, work, v) as u64);
     let c = assignment::reason(d, h, work, v);
     if c == NO_REASON {
-        io::write_all(1, b"- ");
+        put(rt, "- ");
     } else {
-        number(wide(c));
+        number(rt, wide(c));
     }
-    number(wide(assignment::phase(d, h, work, v)));
-    io::write_all(1, b"| ");
+    number(rt, wide(assignment::phase(d, h, work, v)));
+    put(rt, "| ");
 }
 
-fn variables(d: Sizes, h: Header, work: &[u32])
+fn variables(rt: &impl Print, d: Sizes, h: Header, work: &[u32])
     requires { Live d h work.now }
 {
-    io::write_all(1, b"variables ");
+    put(rt, "variables ");
     for v in 0..d.vars {
-        variable(d, h, work, Var(v as u32));
+        variable(rt, d, h, work, Var(v as u32));
     }
-    io::write_all(1, b"\n");
+    put(rt, "\n");
 }
 
-fn trail(d: Sizes, h: Header, work: &[u32])
+fn trail(rt: &impl Print, d: Sizes, h: Header, work: &[u32])
     requires { Live d h work.now }
 {
-    io::write_all(1, b"trail ");
+    put(rt, "trail ");
     let n = h.trail.assigned;
     for i in 0..n {
-        number(wide(assignment::trail_at(d, h, work, i).0));
+        number(rt, wide(assignment::trail_at(d, h, work, i).0));
     }
-    io::write_all(1, b"\n");
+    put(rt, "\n");
 }
 
-fn limits(d: Sizes, h: Header, work: &[u32])
+fn limits(rt: &impl Print, d: Sizes, h: Header, work: &[u32])
     requires { Live d h work.now }
 {
-    io::write_all(1, b"limits ");
+    put(rt, "limits ");
     let n = h.trail.levels;
     for k in 0..n {
-        number(assignment::limit_at(d, h, work, k) as u64);
+        number(rt, assignment::limit_at(d, h, work, k) as u64);
     }
-    io::write_all(1, b"\n");
+    put(rt, "\n");
 }
 
-fn assigned(d: Sizes, h: Header, work: &[u32])
+fn assigned(rt: &impl Print, d: Sizes, h: Header, work: &[u32])
     requires { Live d h work.now }
 {
-    number(assignment::assigned(d, h, work) as u64);
-    number(assignment::decision_level(d, h, work) as u64);
-    variables(d, h, work);
-    trail(d, h, work);
-    limits(d, h, work);
+    number(rt, assignment::assigned(d, h, work) as u64);
+    number(rt, assignment::decision_level(d, h, work) as u64);
+    variables(rt, d, h, work);
+    trail(rt, d, h, work);
+    limits(rt, d, h, work);
 }
 
 // A clause's literals.
-fn clause_lits(d: Sizes, h: Header, work: &[u32], c: usize)
+fn clause_lits(rt: &impl Print, d: Sizes, h: Header, work: &[u32], c: usize)
     requires live { Live d h work.now }
     requires c_lt_clauses { c < h.store.clauses }
 {
     let s = clauses::clause(d, h, work, c);
     for i in 0..s.len() {
-        number(wide(s[i]));
+        number(rt, wide(s[i]));
     }
-    io::write_all(1, b"| ");
+    put(rt, "| ");
 }
 
-fn all_clauses(d: Sizes, h: Header, work: &[u32])
+fn all_clauses(rt: &impl Print, d: Sizes, h: Header, work: &[u32])
     requires { Live d h work.now }
 {
-    io::write_all(1, b"clauses ");
+    put(rt, "clauses ");
     let n = h.store.clauses;
     for c in 0..n {
-        clause_lits(d, h, work, c);
+        clause_lits(rt, d, h, work, c);
     }
-    io::write_all(1, b"\n");
+    put(rt, "\n");
 }
 
 // The node at the cursor and its blocker, and on.
-fn visit(d: Sizes, h: Header, work: &[u32], l: Lit, c: Cursor) -> Cursor
+fn visit(rt: &impl Print, d: Sizes, h: Header, work: &[u32], l: Lit, c: Cursor) -> Cursor
     requires rep { Rep d h work.now }
     requires l_bound { l.0 < 2 * d.vars }
     requires on { On d l.0 c (whole d h work.now) × More l.0 c (whole d h work.now) }
     ensures { On d l.0 result (whole d h work.now) × (result.passed ≡ c.passed + 1) }
 {
     let x = watches::node(d, h, work, l, c);
-    number(x as u64);
-    number(wide(watches::blocker(d, h, work, x).0));
+    number(rt, x as u64);
+    number(rt, wide(watches::blocker(d, h, work, x).0));
     watches::stay(d, h, work, l, c, x)
 }
 
-fn list(d: Sizes, h: Header, work: &[u32], l: Lit)
+fn list(rt: &impl Print, d: Sizes, h: Header, work: &[u32], l: Lit)
     requires live { Live d h work.now }
     requires l_bound { l.0 < 2 * d.vars }
 {
     let mut c = watches::walk(d, h, work, l);
     while watches::more(d, h, work, l, c) {
-        c = visit(d, h, work, l, c);
+        c = visit(rt, d, h, work, l, c);
     }
-    io::write_all(1, b"| ");
+    put(rt, "| ");
 }
 
-fn lists(d: Sizes, h: Header, work: &[u32])
+fn lists(rt: &impl Print, d: Sizes, h: Header, work: &[u32])
     requires { Live d h work.now }
 {
-    io::write_all(1, b"watches ");
+    put(rt, "watches ");
     let n = 2 * d.vars;
     for l in 0..n {
-        list(d, h, work, Lit(l as u32));
+        list(rt, d, h, work, Lit(l as u32));
     }
-    io::write_all(1, b"\n");
+    put(rt, "\n");
 }
 
-fn finals(d: Sizes, h: Header, work: &[u32])
+fn finals(rt: &impl Print, d: Sizes, h: Header, work: &[u32])
     requires { Live d h work.now }
 {
-    io::write_all(1, b"final ");
+    put(rt, "final ");
     let m = marks::final_items(d, h, work);
     for i in 0..m.len() {
-        number(wide(m[i]));
+        number(rt, wide(m[i]));
     }
-    io::write_all(1, b"\n");
+    put(rt, "\n");
 }
 
 // Two clauses.
@@ -158,41 +162,41 @@ fn store_two(d: Sizes, work: &mut [u32]) -> Header
 }
 
 // And a third that is refused: its first literal is of no variable.
-fn store_some(d: Sizes, work: &mut [u32]) -> Header
+fn store_some(rt: &impl Print, d: Sizes, work: &mut [u32]) -> Header
     requires { Room d (length work.old) }
     ensures { Live d result work.new }
 {
     let a = store_two(d, work);
     let b = tour::add(d, a, work, Lit(8), Lit(2), Lit(6));
-    all_clauses(d, b, work);
-    lists(d, b, work);
+    all_clauses(rt, d, b, work);
+    lists(rt, d, b, work);
     b
 }
 
 // The first node of list 3 gets another blocker, then goes to list 7.
-fn reblocked(d: Sizes, h: Header, work: &mut [u32])
+fn reblocked(rt: &impl Print, d: Sizes, h: Header, work: &mut [u32])
     requires { Live d h work.old }
     ensures { Live d h work.new }
 {
     tour::reblock(d, h, work, Lit(3), Lit(5));
-    lists(d, h, work);
+    lists(rt, d, h, work);
 }
 
-fn sent(d: Sizes, h: Header, work: &mut [u32])
+fn sent(rt: &impl Print, d: Sizes, h: Header, work: &mut [u32])
     requires { Live d h work.old }
     ensures { Live d h work.new }
 {
     tour::send(d, h, work, Lit(3), Lit(7), Lit(6));
-    lists(d, h, work);
+    lists(rt, d, h, work);
 }
 
-fn clauses_part(d: Sizes, work: &mut [u32]) -> Header
+fn clauses_part(rt: &impl Print, d: Sizes, work: &mut [u32]) -> Header
     requires { Room d (length work.old) }
     ensures { Live d result work.new }
 {
-    let a = store_some(d, work);
-    reblocked(d, a, work);
-    sent(d, a, work);
+    let a = store_some(rt, d, work);
+    reblocked(rt, d, a, work);
+    sent(rt, d, a, work);
     a
 }
 
@@ -225,32 +229,32 @@ fn climb_on(d: Sizes, h: Header, work: &mut [u32]) -> Header
 }
 
 // What is assigned, and back to a level.
-fn fall(d: Sizes, h: Header, work: &mut [u32], level: usize, phase: u32) -> Header
+fn fall(rt: &impl Print, d: Sizes, h: Header, work: &mut [u32], level: usize, phase: u32) -> Header
     requires { Live d h work.old }
     ensures { Live d result work.new }
 {
-    assigned(d, h, work);
+    assigned(rt, d, h, work);
     tour::back(d, h, work, level, phase)
 }
 
 // Up, back to level 1, and back to level 0.
-fn swing(d: Sizes, h: Header, work: &mut [u32], phase: u32) -> Header
+fn swing(rt: &impl Print, d: Sizes, h: Header, work: &mut [u32], phase: u32) -> Header
     requires { Live d h work.old }
     ensures { Live d result work.new }
 {
     let a = climb_on(d, h, work);
-    let b = fall(d, a, work, 1, phase);
-    fall(d, b, work, 0, phase)
+    let b = fall(rt, d, a, work, 1, phase);
+    fall(rt, d, b, work, 0, phase)
 }
 
 // In each of the phase modes.
-fn swings(d: Sizes, h: Header, work: &mut [u32]) -> Header
+fn swings(rt: &impl Print, d: Sizes, h: Header, work: &mut [u32]) -> Header
     requires { Live d h work.old }
     ensures { Live d result work.new }
 {
-    let a = swing(d, h, work, 0);
-    let b = swing(d, a, work, 1);
-    swing(d, b, work, 2)
+    let a = swing(rt, d, h, work, 0);
+    let b = swing(rt, d, a, work, 1);
+    swing(rt, d, b, work, 2)
 }
 
 // Three literals, two of them the same.
@@ -263,24 +267,24 @@ fn conclude(d: Sizes, h: Header, work: &mut [u32]) -> Header
     tour::finish(d, b, work, Lit(5))
 }
 
-fn final_clause(d: Sizes, h: Header, work: &mut [u32]) -> Header
+fn final_clause(rt: &impl Print, d: Sizes, h: Header, work: &mut [u32]) -> Header
     requires { Live d h work.old }
     ensures { Live d result work.new }
 {
     let a = conclude(d, h, work);
-    finals(d, a, work);
+    finals(rt, d, a, work);
     let b = tour::unfinish(d, a, work);
-    finals(d, b, work);
+    finals(rt, d, b, work);
     b
 }
 
-fn run(d: Sizes, work: &mut [u32]) -> Header
+fn run(rt: &impl Print, d: Sizes, work: &mut [u32]) -> Header
     requires { Room d (length work.old) }
     ensures { Live d result work.new }
 {
-    let a = clauses_part(d, work);
-    let b = swings(d, a, work);
-    final_clause(d, b, work)
+    let a = clauses_part(rt, d, work);
+    let b = swings(rt, d, a, work);
+    final_clause(rt, d, b, work)
 }
 
 // How many cells are not 0.
@@ -294,15 +298,15 @@ fn used(work: &[u32]) -> usize {
     k
 }
 
-fn main() {
+fn main(rt: HostRuntime) {
     let mut work = [7u32; 152];
     let d = Sizes {
         vars: 4,
         room: 6,
         lit_room: 24,
     };
-    run(d, &mut work);
+    run(&rt, d, &mut work);
     start::clear(&mut work);
-    number(used(&work) as u64);
-    io::write_all(1, b"\n");
+    number(&rt, used(&work) as u64);
+    put(&rt, "\n");
 }

@@ -1,0 +1,3 @@
+mod Reading
+mod Outputs
+mod ReadLaws

@@ -1,5 +1,5 @@
 -- The activities as the code has them: a slice of floats and the increment.
-use Rattle.std.specs.Prelude.{ℕ, ◌≡◌, refl, true, false, List, map, get_or, set, Float}
+use Rattle.std.specs.Prelude.{ℕ, ◌≡◌, true, false, List, map, get_or, set, Float}
 use Rattle.std.specs.Float.{nan, binary64}
 use Rattle.std.specs.Float.Ieee.{add, mul, lt}
 use Rattle.model.specs.State.{Activity}

@@ -6,12 +6,12 @@ use Rattle.std.proofs.Math.Seq.{slice}
 use Rattle.model.specs.State.{State, clause_at}
 use Rattle.model.specs.Analyze.{Resolvent}
 use Rattle.lawbase.specs.Basics.{◌∈◌, Every, neg-neg, neg_range}
-use Rattle.learning.specs.Trail.{in_range, in_reverse}
+use Rattle.learning.proofs.Trail.{in_range, in_reverse}
 use Rattle.learning.specs.Marks.{MarksOf}
-use Rattle.learning.specs.Room.{distinct-length}
+use Rattle.learning.proofs.Room.{distinct-length}
 use Rattle.learning.specs.FirstUip.{Conflict, FirstUip}
 use Rattle.learning.specs.Walk.{Stop}
-use Rattle.learning.specs.Uip.{first_uip_law}
+use Rattle.learning.proofs.Uip.{first_uip_law}
 use Rattle.activity.specs.Activities.{activity}
 use Rattle.trail.specs.View.{LitsOf}
 use Rattle.state.specs.View.{Whole, whole, state_of, Rep}

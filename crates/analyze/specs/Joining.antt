@@ -12,9 +12,10 @@ use Rattle.model.specs.Activity.{var_bump_activity}
 use Rattle.model.specs.Analyze.{Resolvent, join}
 use Rattle.lawbase.specs.Basics.{◌∈◌, Every, every_one, split, on?, less?, neg-neg, neg_range, var-neg, var_range}
 use Rattle.lawbase.specs.WellFormed.{Entries}
-use Rattle.learning.specs.Trail.{in_range, index_in}
-use Rattle.learning.specs.Join.{Inv, counted, noted, join_law, join_cases, room}
-use Rattle.learning.specs.Room.{distinct-length, trail_short, path_short}
+use Rattle.learning.proofs.Trail.{in_range, index_in}
+use Rattle.learning.specs.Join.{Inv, counted, noted}
+use Rattle.learning.proofs.Join.{join_law, join_cases, room}
+use Rattle.learning.proofs.Room.{distinct-length, trail_short, path_short}
 use Rattle.activity.specs.Activities.{activity}
 use Rattle.scratch.specs.View.{marked, buffered}
 use Rattle.trail.specs.View.{LitsOf}

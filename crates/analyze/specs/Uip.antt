@@ -9,9 +9,10 @@ use Rattle.model.specs.State.{Store, VarState, Activity, Solver, State, decision
 use Rattle.model.specs.Analyze.{Resolvent, join, resolve, first_uip}
 use Rattle.lawbase.specs.Basics.{◌∈◌, Every}
 use Rattle.lawbase.specs.WellFormed.{Entries}
-use Rattle.learning.specs.Trail.{in_reverse}
+use Rattle.learning.proofs.Trail.{in_reverse}
 use Rattle.learning.specs.Join.{Inv}
-use Rattle.learning.specs.Uip.{nothing, nothing_inv, begun, begun_law, begun_path}
+use Rattle.learning.specs.Uip.{nothing}
+use Rattle.learning.proofs.Uip.{nothing_inv, begun, begun_law, begun_path}
 use Rattle.learning.specs.FirstUip.{Conflict}
 use Rattle.activity.specs.Activities.{activity}
 use Rattle.store.specs.View.{clause_of}

@@ -10,8 +10,9 @@ use Rattle.region.specs.Table.{all-zero}
 use Rattle.model.specs.Lit.{var}
 use Rattle.model.specs.Minimise.{is_seen}
 use Rattle.lawbase.specs.Basics.{◌∈◌, Every, split, less?, same?}
-use Rattle.learning.specs.Trail.{index_in}
-use Rattle.learning.specs.Marks.{seen_at, clear_was, Cells, cells-set, MarksOf}
+use Rattle.learning.proofs.Trail.{index_in}
+use Rattle.learning.specs.Marks.{seen_at, Cells, MarksOf}
+use Rattle.learning.proofs.Marks.{clear_was, cells-set}
 use Rattle.scratch.specs.View.{Scratch, with_marks, marked, unmarked}
 use Rattle.trail.specs.View.{LitsOf}
 use Rattle.state.specs.View.{Whole, whole, Rep, Holds, with_scratch}

@@ -12,11 +12,13 @@ use Rattle.model.specs.Minimise.{is_seen}
 use Rattle.model.specs.Analyze.{Resolvent, join, resolve, first_uip}
 use Rattle.lawbase.specs.Basics.{◌∈◌, Every, split, on?, less?, var_range}
 use Rattle.lawbase.specs.WellFormed.{Entries, Proper, Implies}
-use Rattle.learning.specs.Trail.{index_in}
+use Rattle.learning.proofs.Trail.{index_in}
 use Rattle.learning.specs.Join.{Inv}
-use Rattle.learning.specs.Turn.{less, stopped, resolve_skip, resolve_stop, resolve_on, turn_skips, inv_less, top_seen, reason_of, turn_joins, not_empty}
-use Rattle.learning.specs.Room.{learnt_short}
-use Rattle.learning.specs.Uip.{nothing, begun_law, begun_path}
+use Rattle.learning.specs.Turn.{less, stopped}
+use Rattle.learning.proofs.Turn.{resolve_skip, resolve_stop, resolve_on, turn_skips, inv_less, top_seen, reason_of, turn_joins, not_empty}
+use Rattle.learning.proofs.Room.{learnt_short}
+use Rattle.learning.specs.Uip.{nothing}
+use Rattle.learning.proofs.Uip.{begun_law, begun_path}
 use Rattle.learning.specs.FirstUip.{Conflict}
 use Rattle.activity.specs.Activities.{activity}
 use Rattle.scratch.specs.View.{marked, buffered}
@@ -218,6 +220,12 @@ pub record Walking (d : Sizes) (h : Header) (x : Whole) (acts₀ : List Float) (
       ≡ resolve (state_of h x).store x.assignment.vars (older x.assignment.vars.trail (length x.assignment.vars.trail)) (so_far x acts₀ r₀)
   pub grown : r₀.learnt ≤ r.learnt
 
+same_entries : (n : ℕ) {cs cs' : List (List ℕ)} {vs vs' : VarState} → cs' ≡ cs → vs' ≡ vs → (j : ℕ) → Entries n cs vs (get_or vs.trail j 0 ∷ older vs.trail j)
+    → Entries n cs' vs' (get_or vs'.trail j 0 ∷ older vs'.trail j)
+same_entries n {cs} {cs'} {vs} {vs'} p q j e =
+    subst (λ (c : List (List ℕ)). Entries n c vs' (get_or vs'.trail j 0 ∷ older vs'.trail j)) (sym p)
+    (subst (λ (v : VarState). Entries n cs v (get_or v.trail j 0 ∷ older v.trail j)) (sym q) e)
+
 module _ (d : Sizes) (h : Header) (x : Whole) (acts₀ : List Float) (r₀ : Joined) (i : ℕ) (w : List ℕ) (acts : List Float) (r : Joined) (v : Walking d h x acts₀ r₀ i w acts r) where
   abbrev st : Store
   st = (state_of h x).store
@@ -267,7 +275,7 @@ module _ (d : Sizes) (h : Header) (x : Whole) (acts₀ : List Float) (r₀ : Joi
           proper = rw walk_clauses v.proper;
           deep = rw walk_vars v.deep;
           inside = rw walk_vars (omega (arith, walk_falls, v.inside));
-          entries = rw (walk_vars, walk_clauses) found.entries;
+          entries = same_entries d.vars (ap (λ y. y.clauses) walk_clauses) (ap (λ y. y.vars) walk_vars) j found.entries;
           inv = rw walk_vars found.inv;
           seen = rw walk_vars found.seen;
           top = rw walk_vars found_top;

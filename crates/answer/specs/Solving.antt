@@ -10,12 +10,13 @@ use Rattle.model.specs.Search as model
 use Rattle.model.specs.Search.{cells, answer_of, still_ok, Solved}
 use Rattle.model.specs.Trail.{cancel_until}
 use Rattle.model.specs.Intake.{add_clause}
-use Rattle.assign.specs.Back.{cancel_level}
-use Rattle.assign.specs.Searching.{searching_start}
+use Rattle.assign.proofs.Back.{cancel_level}
+use Rattle.assign.proofs.Searching.{searching_start}
 use Rattle.watching.specs.Watching.{Watching}
-use Rattle.watching.specs.Intake.{intaken, intaken_level}
-use Rattle.ends.specs.Answer.{Idle, closed, ready, found_by, solve_cases, solve_idle}
-use Rattle.ends.specs.Out.{clause_idle}
+use Rattle.watching.proofs.Intake.{intaken, intaken_level}
+use Rattle.ends.specs.Answer.{Idle, closed, ready, found_by}
+use Rattle.ends.proofs.Answer.{solve_cases, solve_idle}
+use Rattle.ends.proofs.Out.{clause_idle}
 use Rattle.ends.specs.Bounds.{Limited}
 use Rattle.activity.specs.Activities.{activity}
 use Rattle.state.specs.Still.{Has, state_at, config_of}

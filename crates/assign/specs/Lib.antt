@@ -1,17 +1,12 @@
 -- The steps of the definition keep the assignment: reading, putting a literal on the trail, opening a level, going back, deciding.
 pub mod Lists
 pub mod Reading
-pub mod Reasons
-pub mod Enqueue
-pub mod Level
 pub mod Clauses
 pub mod Look
-pub mod Cancel
 pub mod Back
 pub mod Levels
 pub mod Assumed
 pub mod Searching
 pub mod Pick
 pub mod Decide
-pub mod Initial
 pub mod Learn

@@ -1,5 +1,5 @@
 -- Cells written one after the other, as a list that is pasted over another.
-use Rattle.std.specs.Prelude.{ℕ, zero, suc, ◌+◌, ◌≤◌, ◌<◌, ◌≡◌, refl, List, [], ◌∷◌, ◌++◌, length, set, take, drop}
+use Rattle.std.specs.Prelude.{ℕ, suc, ◌+◌, ◌≤◌, ◌<◌, ◌≡◌, List, [], ◌∷◌, ◌++◌, length, set, take, drop}
 use Rattle.std.proofs.Common.{arith, sym, ap, ap₂, ◌∙◌, append_assoc, length-set, take-suc-set, drop-set-lt}
 use Rattle.std.proofs.Math.Seq.{paste, paste-zero}
 use Rattle.model.specs.Search.{cells}

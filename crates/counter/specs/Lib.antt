@@ -7,5 +7,4 @@ pub mod Theorem
 pub mod Rows
 pub mod Reads
 pub mod Writing
-pub mod Judge
 pub mod Answers

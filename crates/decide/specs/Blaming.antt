@@ -13,12 +13,13 @@ use Rattle.model.specs.Minimise.{is_seen}
 use Rattle.model.specs.Final.{mem, insert, mark, blame}
 use Rattle.lawbase.specs.Basics.{◌∈◌, Every, shrink, split, same?, on?, less?, neg_range, var-neg, var_range}
 use Rattle.lawbase.specs.WellFormed.{Implies, Assignment, Proper, WellFormed}
-use Rattle.assign.specs.Lists.{get_or_in, from_reverse, index-take, reverse_snoc}
-use Rattle.assign.specs.Reading.{entry_at, trail_range}
-use Rattle.assign.specs.Reasons.{ground_implied, level_below}
-use Rattle.learning.specs.Marks.{Cells, cells-set, clear_same}
+use Rattle.assign.proofs.Lists.{get_or_in, from_reverse, index-take, reverse_snoc}
+use Rattle.assign.proofs.Reading.{entry_at, trail_range}
+use Rattle.assign.proofs.Reasons.{ground_implied, level_below}
+use Rattle.learning.specs.Marks.{Cells}
+use Rattle.learning.proofs.Marks.{cells-set, clear_same}
 use Rattle.learning.specs.Parts.{upper}
-use Rattle.learning.specs.Blame.{blame_cases}
+use Rattle.learning.proofs.Blame.{blame_cases}
 use Rattle.scratch.specs.View.{marked}
 use Rattle.store.specs.View.{clause_of}
 use Rattle.litset.specs.View.{inserted, with_items}

@@ -14,12 +14,14 @@ use Rattle.model.specs.Decide as model
 use Rattle.model.specs.Decide.{pick, pick_branch_lit, open_level, assume, decide}
 use Rattle.lawbase.specs.Basics.{◌∈◌, Every, var_range}
 use Rattle.lawbase.specs.WellFormed.{WellFormed}
-use Rattle.assign.specs.Lists.{get_or_in}
-use Rattle.assign.specs.Reading.{on_is_false, unset_of, trail_room}
-use Rattle.assign.specs.Level.{level_more}
-use Rattle.assign.specs.Levels.{Levels, levels_empty, levels_trail}
-use Rattle.assign.specs.Pick.{Free, branch_some}
-use Rattle.assign.specs.Decide.{opened-empty, open_formed}
+use Rattle.assign.proofs.Lists.{get_or_in}
+use Rattle.assign.proofs.Reading.{on_is_false, unset_of, trail_room}
+use Rattle.assign.proofs.Level.{level_more}
+use Rattle.assign.specs.Levels.{Levels}
+use Rattle.assign.proofs.Levels.{levels_empty, levels_trail}
+use Rattle.assign.specs.Pick.{Free}
+use Rattle.assign.proofs.Pick.{branch_some}
+use Rattle.assign.proofs.Decide.{opened-empty, open_formed}
 use Rattle.activity.specs.Pick.{pick-unset}
 use Rattle.trail.specs.View.{Assignment, enqueued, next_level}
 use Rattle.trail.specs.declared.TrailHead.{TrailHead}

@@ -11,10 +11,11 @@ use Rattle.model.specs.State.{Store, VarState, decision_level}
 use Rattle.model.specs.Final.{mem, insert, blame, analyze_final}
 use Rattle.lawbase.specs.Basics.{◌∈◌, split, same?, less?}
 use Rattle.lawbase.specs.WellFormed.{WellFormed}
-use Rattle.assign.specs.Reading.{trail_range, trail_var}
-use Rattle.learning.specs.Marks.{Cells, cells-set, cells_none}
+use Rattle.assign.proofs.Reading.{trail_range, trail_var}
+use Rattle.learning.specs.Marks.{Cells}
+use Rattle.learning.proofs.Marks.{cells-set, cells_none}
 use Rattle.learning.specs.Parts.{upper}
-use Rattle.learning.specs.Final.{final_law}
+use Rattle.learning.proofs.Final.{final_law}
 use Rattle.scratch.specs.View.{marked}
 use Rattle.litset.specs.View.{Members, inserted, with_items}
 use Rattle.litset.specs.Items.{inserted_with, with_items_again}

@@ -2,7 +2,6 @@
 pub mod Fixed
 pub mod Credit
 pub mod Learns
-pub mod Cases
 pub mod Comes
 pub mod Turns
 pub mod Last
@@ -10,6 +9,5 @@ pub mod Restart
 pub mod Rounds
 pub mod Bounds
 pub mod Answer
-pub mod Out
 pub mod Storage
 pub mod Spends

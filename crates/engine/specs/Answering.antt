@@ -12,7 +12,7 @@ use Rattle.script.specs.declared.Judgement.TheVariants as J
 use Rattle.script.specs.declared.Judgement.{Judgement}
 use Rattle.script.specs.Judging.{reading_of}
 use Rattle.script.specs.Accepted.{Accepted, judged_refused, accepted_read}
-use Rattle.laws.specs.Theorems.{demand_3, demand_3_of_none}
+use Rattle.laws.proofs.Theorems.{demand_3, demand_3_of_none}
 use Rattle.engine.specs.declared.Answer as Answer
 use Rattle.engine.specs.declared.Answer.{Answer}
 use Rattle.records.specs.Recording.{Written}

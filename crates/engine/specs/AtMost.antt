@@ -7,7 +7,8 @@ use Rattle.counter.specs.declared.Answer.TheVariants.{Refused, Written}
 use Rattle.counter.specs.Counter.{at_most, after}
 use Rattle.counter.specs.Theorem.{Exactly}
 use Rattle.counter.specs.Reads.{ReadsBack}
-use Rattle.counter.specs.Answers.{answer_of, Writes, refusal_numbered}
+use Rattle.counter.specs.Answers.{answer_of, Writes}
+use Rattle.counter.proofs.Answers.{refusal_numbered}
 use Rattle.engine.specs.Runs.{number_of, value_of}
 
 -- A number n and a value x; the slice was out and is out' afterwards. Where n is 0, values of the literals extend to a model of the clauses written if and only

@@ -10,10 +10,11 @@ use Rattle.model.specs.Intake as intake
 use Rattle.model.specs.Intake.{sort, simplify, add_kept, add_clause}
 use Rattle.lawbase.specs.Basics.{Every}
 use Rattle.lawbase.specs.WellFormed.{WellFormed}
-use Rattle.assign.specs.Lists.{get_or_in_take}
-use Rattle.assign.specs.Reading.{trail_room}
-use Rattle.watching.specs.Sort.{sort_every}
-use Rattle.watching.specs.Intake.{Residue, reduced}
+use Rattle.assign.proofs.Lists.{get_or_in_take}
+use Rattle.assign.proofs.Reading.{trail_room}
+use Rattle.watching.proofs.Sort.{sort_every}
+use Rattle.watching.specs.Intake.{Residue}
+use Rattle.watching.proofs.Intake.{reduced}
 use Rattle.state.specs.declared.Header.{Header}
 use Rattle.state.specs.declared.Config.{Config}
 use Rattle.state.specs.View.{Whole, whole, state_of, Rep}

@@ -11,12 +11,14 @@ use Rattle.model.specs.Trail.{unchecked_enqueue}
 use Rattle.model.specs.Intake.{Taken, add_clause}
 use Rattle.lawbase.specs.Basics.{Every}
 use Rattle.lawbase.specs.WellFormed.{WellFormed, Assignment, Proper}
-use Rattle.assign.specs.Reading.{Unset, unset_of}
-use Rattle.assign.specs.Enqueue.{enqueue_fixed, enqueue_length}
-use Rattle.assign.specs.Clauses.{clauses_more}
-use Rattle.assign.specs.Searching.{ok_formed, vars_formed, store_formed}
-use Rattle.watching.specs.Attach.{attach_stored, attach_clauses}
-use Rattle.watching.specs.Intake.{Residue, Reduced, void, left, Intaken, closed, dropped_clause, emptied, unit_left, stored_clause, no_storage, intaken}
+use Rattle.assign.specs.Reading.{Unset}
+use Rattle.assign.proofs.Reading.{unset_of}
+use Rattle.assign.proofs.Enqueue.{enqueue_fixed, enqueue_length}
+use Rattle.assign.proofs.Clauses.{clauses_more}
+use Rattle.assign.proofs.Searching.{ok_formed, vars_formed, store_formed}
+use Rattle.watching.proofs.Attach.{attach_stored, attach_clauses}
+use Rattle.watching.specs.Intake.{Residue, Reduced, void, left, Intaken, closed, dropped_clause, emptied, unit_left, stored_clause, no_storage}
+use Rattle.watching.proofs.Intake.{intaken}
 
 -- what is left, where something is
 pub residue_of : {values c k : List ℕ} {o : Option (List ℕ)} → Reduced values c o → o ≡ some k → Residue values c k

@@ -6,8 +6,9 @@ use Rattle.std.proofs.Math.Seq.{take-append-add, drop-length}
 use Rattle.std.proofs.lemmas.Bool.{lt-leb}
 use Rattle.model.specs.Intake.{insert, sort}
 use Rattle.lawbase.specs.Basics.{same?, split}
-use Rattle.assign.specs.Lists.{get_or_in}
-use Rattle.watching.specs.Sort.{Ascending, sort_ascending}
+use Rattle.assign.proofs.Lists.{get_or_in}
+use Rattle.watching.specs.Sort.{Ascending}
+use Rattle.watching.proofs.Sort.{sort_ascending}
 use Rattle.state.specs.declared.Sizes.{Sizes}
 use Rattle.state.specs.declared.Header.{Header}
 use Rattle.state.specs.View.{Whole, whole, with_scratch, Rep, Holds}

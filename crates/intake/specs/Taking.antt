@@ -13,7 +13,7 @@ use Rattle.model.specs.State.{State}
 use Rattle.model.specs.Store.{stored_literals, has_room, attach_clause}
 use Rattle.model.specs.Intake as intake
 use Rattle.model.specs.Intake.{add_kept}
-use Rattle.watching.specs.Store.{room}
+use Rattle.watching.proofs.Store.{room}
 use Rattle.trail.specs.View.{enqueued}
 use Rattle.trail.specs.declared.TrailHead.{TrailHead}
 use Rattle.state.specs.declared.Sizes.{Sizes}

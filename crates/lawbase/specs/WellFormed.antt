@@ -1,8 +1,8 @@
 -- What holds of the state between two steps of a run.
-use Rattle.std.specs.Prelude.{◌≡◌, ◌≢◌, ◌⊎◌, Bool, true, false, List, [], ◌∷◌, ◌++◌, reverse, ℕ, ◌+◌, ◌*◌, ◌-◌, ◌≤◌, ◌<◌, length, get_or, drop, eqb}
+use Rattle.std.specs.Prelude.{◌≡◌, ◌≢◌, Bool, true, false, List, [], ◌∷◌, reverse, ℕ, ◌+◌, ◌*◌, ◌-◌, ◌≤◌, ◌<◌, length, get_or, drop, eqb}
 use Rattle.model.specs.Lit.{var, sign, neg, no_reason, l_undef}
 use Rattle.model.specs.Script.{Config}
-use Rattle.model.specs.State.{Watch, Store, VarState, State, level_lit, reason_lit, clause_at}
+use Rattle.model.specs.State.{Watch, Store, VarState, State, level_lit, reason_lit}
 use Rattle.model.specs.Store.{stored_literals}
 use Rattle.lawbase.specs.Basics.{◌∈◌, Every}
 

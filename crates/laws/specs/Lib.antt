@@ -1,4 +1,3 @@
 -- What is proved of every run, restated in one place.
 pub mod Run
 pub mod Reach
-pub mod Theorems

@@ -1,3 +1,3 @@
-// The theorems stand in specs/.
+// The theorems stand in proofs/, what they speak of in specs/.
 
 #![tactic(auto)]

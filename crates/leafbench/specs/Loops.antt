@@ -11,8 +11,8 @@ use Rattle.std.proofs.Math.ListN.{length, get_or, take, length-take}
 use Rattle.std.proofs.lemmas.List.{get_or-replicate, get_or_at}
 use Rattle.std.proofs.Math.Seq.{get_or-set_same, get_or-set_other, get_or-take}
 use Rattle.std.proofs.Math.Dec.{ltb}
-use Rattle.model.specs.Lit.{var, sign, neg, l_undef, value_lit}
-use Rattle.model.specs.State.{State, VarState, initial_state, decision_level}
+use Rattle.model.specs.Lit.{var, neg, l_undef, value_lit}
+use Rattle.model.specs.State.{State, initial_state, decision_level}
 use Rattle.model.specs.Store.{stored_literals}
 use Rattle.model.specs.Trail.{unchecked_enqueue, new_decision_level, level_end}
 use Rattle.lawbase.specs.Basics.{split, less?}
@@ -21,9 +21,9 @@ use Rattle.trail.specs.declared.TrailHead.{TrailHead}
 use Rattle.watch.specs.View.{Watches, list_of, appended, attached}
 use Rattle.state.specs.declared.Sizes.{Sizes}
 use Rattle.state.specs.declared.Header.{Header}
-use Rattle.state.specs.View.{Whole, whole, with_assignment, Rep}
+use Rattle.state.specs.View.{Whole, whole, with_assignment}
 use Rattle.state.specs.Laws.{with_trail}
-use Rattle.state.specs.AssignmentLaws.{counts, head_until, head_until_below, assigned_counted, levels_counted}
+use Rattle.state.specs.AssignmentLaws.{counts, head_until_below, assigned_counted, levels_counted}
 use Rattle.state.specs.StartLaws.{Started}
 use Rattle.state.specs.ClauseLaws.{count_is, literals_is}
 use Rattle.state.specs.WatchSteps.{lists_count, blockers_count}

@@ -11,9 +11,11 @@ use Rattle.model.specs.State.{State}
 use Rattle.model.specs.Store.{stored_literals, has_room}
 use Rattle.model.specs.Search.{add_learnt_and_backtrack}
 use Rattle.lawbase.specs.Basics.{neg-neg, var-neg}
-use Rattle.assign.specs.Learn.{Asserting, with_unit, with_learnt, learn_unit, learn_cases}
+use Rattle.assign.specs.Learn.{Asserting, with_unit, with_learnt}
+use Rattle.assign.proofs.Learn.{learn_unit, learn_cases}
 use Rattle.learning.specs.FirstUip.{Conflict}
-use Rattle.learning.specs.Analyzed.{Analyzed, analyze_law}
+use Rattle.learning.specs.Analyzed.{Analyzed}
+use Rattle.learning.proofs.Analyzed.{analyze_law}
 use Rattle.activity.specs.Activities.{activity}
 use Rattle.state.specs.Still.{Still, Has, state_at, config_of}
 use Rattle.state.specs.declared.Header.{Header}

@@ -12,11 +12,12 @@ use Rattle.model.specs.Store.{stored_literals, has_room, attach_clause}
 use Rattle.model.specs.Trail.{unchecked_enqueue, cancel_until}
 use Rattle.lawbase.specs.Basics.{split, less?, var_range}
 use Rattle.lawbase.specs.WellFormed.{WellFormed, Proper}
-use Rattle.assign.specs.Lists.{get_or_in}
-use Rattle.assign.specs.Reading.{trail_var, trail_room}
-use Rattle.assign.specs.Back.{cancel_store, cancel_assignment, cancel_formed}
-use Rattle.assign.specs.Learn.{Asserting, uip_range, uip-unset, with_unit, with_learnt, unit_formed, learnt_formed, room_index}
-use Rattle.watching.specs.Attach.{attach_stored}
+use Rattle.assign.proofs.Lists.{get_or_in}
+use Rattle.assign.proofs.Reading.{trail_var, trail_room}
+use Rattle.assign.proofs.Back.{cancel_store, cancel_assignment, cancel_formed}
+use Rattle.assign.specs.Learn.{Asserting, with_unit, with_learnt}
+use Rattle.assign.proofs.Learn.{uip_range, uip-unset, unit_formed, learnt_formed, room_index}
+use Rattle.watching.proofs.Attach.{attach_stored}
 use Rattle.trail.specs.View.{Undoable, enqueued}
 use Rattle.trail.specs.View as tv
 use Rattle.scratch.specs.View.{Scratch}

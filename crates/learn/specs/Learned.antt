@@ -11,13 +11,14 @@ use Rattle.model.specs.Analyze as model
 use Rattle.model.specs.Analyze.{Resolvent, highest_first, backtrack_level}
 use Rattle.lawbase.specs.Basics.{◌∈◌, var-neg}
 use Rattle.lawbase.specs.WellFormed.{WellFormed, Distinct}
-use Rattle.assign.specs.Lists.{get_or_in}
-use Rattle.assign.specs.Reading.{trail_var}
+use Rattle.assign.proofs.Lists.{get_or_in}
+use Rattle.assign.proofs.Reading.{trail_var}
 use Rattle.learning.specs.FirstUip.{Conflict}
 use Rattle.learning.specs.Walk.{Stop}
-use Rattle.learning.specs.Highest.{highest_first_law, headed_length}
-use Rattle.learning.specs.Minimise.{Minimisable, minimize_sub, sub_in}
-use Rattle.learning.specs.Analyzed.{minimisable}
+use Rattle.learning.proofs.Highest.{highest_first_law, headed_length}
+use Rattle.learning.specs.Minimise.{Minimisable}
+use Rattle.learning.proofs.Minimise.{minimize_sub, sub_in}
+use Rattle.learning.proofs.Analyzed.{minimisable}
 use Rattle.activity.specs.Activities.{activity}
 use Rattle.trail.specs.View.{LitsOf}
 use Rattle.scratch.specs.View.{Scratch}

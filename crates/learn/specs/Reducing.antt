@@ -4,7 +4,7 @@ use Rattle.std.proofs.Common.{arith, sym, ap, ◌∙◌, subst}
 use Rattle.std.proofs.lemmas.List.Edits.{sets}
 use Rattle.std.proofs.Math.Seq.{slice, length-sets}
 use Rattle.model.specs.Minimise.{minimize_conflict}
-use Rattle.learning.specs.Minimise.{minimize_keeps}
+use Rattle.learning.proofs.Minimise.{minimize_keeps}
 use Rattle.scratch.specs.View.{unmarked}
 use Rattle.state.specs.View.{Whole, whole, state_of, Rep, Holds, with_scratch}
 use Rattle.state.specs.declared.Header.{Header}

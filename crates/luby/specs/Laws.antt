@@ -1,6 +1,6 @@
 -- Luby's sequence: both loops end by their tests, and how large a term is.
 use Rattle.std.specs.Prelude.{ℕ, zero, suc, ◌≤◌, ◌<◌, ◌-◌, ◌+◌, ◌*◌, ◌/◌, ◌%◌, ◌^◌, ◌≡◌, refl, ◌≢◌}
-use Rattle.std.proofs.Common.{sym, ap, ◌∙◌, arith, pow-suc, mod-lt, pow_pos, pow_mono, lt-ltb, le-ltb, eq-eqb, ne_eqb}
+use Rattle.std.proofs.Common.{sym, ◌∙◌, arith, pow-suc, mod-lt, pow_pos, pow_mono, lt-ltb, le-ltb, eq-eqb, ne_eqb}
 use Rattle.std.proofs.Math.Decide.{ℕ_discrete, dec_lt}
 use Rattle.std.proofs.Math.Nat.{mod-le}
 use Rattle.model.specs.Luby.{climb, descend, luby}

@@ -1,6 +1,6 @@
 -- A table of Luby's terms: one computed test over the whole of it, and the rule at each entry.
 use Rattle.std.specs.Prelude.{ℕ, zero, suc, ◌+◌, ◌<◌, ◌≡◌, refl, Bool, true, false, ◌&&◌, List, [], ◌∷◌, length, get_or, eqb}
-use Rattle.std.proofs.Common.{arith, sym, ◌∙◌, true≢false, eqb-true}
+use Rattle.std.proofs.Common.{arith, sym, true≢false, eqb-true}
 use Rattle.model.specs.Luby.{luby}
 use Rattle.luby.specs.Laws.{Term, luby_pos, luby_le}
 

@@ -2,9 +2,5 @@
 pub mod Unmasked
 pub mod Traceable
 pub mod Bits
-pub mod Full
 pub mod Back
 pub mod Left
-pub mod Levels
-pub mod Learnt
-pub mod Examples

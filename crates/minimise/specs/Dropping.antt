@@ -12,8 +12,9 @@ use Rattle.model.specs.Minimise.{is_seen, abstract_levels, lit_redundant, drop_r
 use Rattle.scratch.specs.View.{Scratch, with_notes, noted, buffered}
 use Rattle.lawbase.specs.Basics.{◌∈◌, split, same?, var-neg, var_range}
 use Rattle.lawbase.specs.WellFormed.{Entries}
-use Rattle.learning.specs.Trail.{in_range}
-use Rattle.learning.specs.Trace.{Fit, Grows, trace_keeps}
+use Rattle.learning.proofs.Trail.{in_range}
+use Rattle.learning.specs.Trace.{Fit, Grows}
+use Rattle.learning.proofs.Trace.{trace_keeps}
 use Rattle.state.specs.declared.Sizes.{Sizes}
 use Rattle.state.specs.declared.Header.{Header}
 use Rattle.state.specs.View.{Whole, whole, Rep, Holds, with_scratch, state_of}

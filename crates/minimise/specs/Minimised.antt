@@ -7,8 +7,8 @@ use Rattle.model.specs.Minimise.{abstract_levels, minimize_conflict}
 use Rattle.scratch.specs.View.{Scratch, with_marks, with_notes}
 use Rattle.lawbase.specs.Basics.{◌∈◌, var-neg, var_range}
 use Rattle.lawbase.specs.WellFormed.{Distinct}
-use Rattle.learning.specs.Trail.{in_range, in_reverse}
-use Rattle.learning.specs.Marks.{unseen_most}
+use Rattle.learning.proofs.Trail.{in_range, in_reverse}
+use Rattle.learning.proofs.Marks.{unseen_most}
 use Rattle.learning.specs.Minimise.{Minimisable}
 use Rattle.state.specs.declared.Sizes.{Sizes}
 use Rattle.state.specs.declared.Header.{Header}

@@ -11,7 +11,8 @@ use Rattle.model.specs.Lit.{var}
 use Rattle.model.specs.Minimise.{is_seen}
 use Rattle.lawbase.specs.Basics.{◌∈◌, Every, split, same?, on?, less?}
 use Rattle.lawbase.specs.WellFormed.{Distinct}
-use Rattle.learning.specs.Marks.{seen_at, MarksOf, unseen, unseen-mark, unseen_most, mark_other, clear_same, cell}
+use Rattle.learning.specs.Marks.{seen_at, MarksOf, unseen}
+use Rattle.learning.proofs.Marks.{unseen-mark, unseen_most, mark_other, clear_same, cell}
 
 -- the marks m when those of k notes, from place `from` on, are taken back
 unfoldable pub undo : List ℕ → ℕ → ℕ → List ℕ → List ℕ
@@ -143,6 +144,7 @@ at_in (l ∷ ls) zero h = here refl
 at_in (l ∷ ls) (suc k) h = there (at_in ls k (omega arith))
 
 in_at : (ls : List ℕ) (q : ℕ) → q ∈ ls → (k : ℕ) × (k < length ls) × (get_or ls k 0 ≡ q)
+in_at [] q x' = elim x' [ ]
 in_at (l ∷ ls) q (here e) = (0, omega arith, sym e)
 in_at (l ∷ ls) q (there i) = let r = in_at ls q i in (suc r.0, omega (arith, r.1), r.2)
 

@@ -11,10 +11,13 @@ use Rattle.scratch.specs.View.{Scratch, with_marks, marked, stacked}
 use Rattle.store.specs.View.{clause_of}
 use Rattle.lawbase.specs.Basics.{◌∈◌, Every, every_one, shrink, var-neg, var_range}
 use Rattle.lawbase.specs.WellFormed.{Entries}
-use Rattle.learning.specs.Trail.{in_range}
-use Rattle.learning.specs.Marks.{unseen, unseen_less}
-use Rattle.learning.specs.Trace.{then, Fit, Pushed as Grown, push_law, fit_reason, fit_stored}
-use Rattle.learning.specs.Turns.{left, push_left, turns_same}
+use Rattle.learning.proofs.Trail.{in_range}
+use Rattle.learning.specs.Marks.{unseen}
+use Rattle.learning.proofs.Marks.{unseen_less}
+use Rattle.learning.specs.Trace.{then, Fit, Pushed as Grown}
+use Rattle.learning.proofs.Trace.{push_law, fit_reason, fit_stored}
+use Rattle.learning.specs.Turns.{left}
+use Rattle.learning.proofs.Turns.{push_left, turns_same}
 use Rattle.state.specs.declared.Sizes.{Sizes}
 use Rattle.state.specs.declared.Header.{Header}
 use Rattle.state.specs.Reasons.{others, Filled}

@@ -14,7 +14,8 @@ use Rattle.model.specs.Minimise.{is_seen, Tracing, push_reason}
 use Rattle.scratch.specs.View as xv
 use Rattle.scratch.specs.View.{Scratch, marked, stacked, noted}
 use Rattle.lawbase.specs.Basics.{split, same?, on?}
-use Rattle.learning.specs.Marks.{Cells, cells-set, unseen, unseen-mark}
+use Rattle.learning.specs.Marks.{Cells, unseen}
+use Rattle.learning.proofs.Marks.{cells-set, unseen-mark}
 use Rattle.learning.specs.Trace.{put}
 use Rattle.state.specs.declared.Sizes.{Sizes}
 use Rattle.state.specs.declared.Header.{Header}

@@ -1,5 +1,5 @@
 -- Cases of document 02's requests, by running the definitions.
-use Rattle.std.specs.Prelude.{◌≡◌, refl, List, [], ◌∷◌}
+use Rattle.std.specs.Prelude.{◌≡◌, refl, [], ◌∷◌}
 use Rattle.model.specs.State.{f64_one}
 use Rattle.model.specs.Exec.{out}
 use Rattle.model.specs.Run.{after, untouched, turned_back, ran}

@@ -1,5 +1,5 @@
 -- Cases that tell wrong steps of the search from the right ones.
-use Rattle.std.specs.Prelude.{ℕ, ◌≡◌, refl, List, [], ◌∷◌}
+use Rattle.std.specs.Prelude.{◌≡◌, refl, [], ◌∷◌}
 use Rattle.model.specs.Exec.{out}
 
 pub record Steps : Type 0 where

@@ -1,5 +1,5 @@
 -- Document 01's wrong turns: for each a case whose cells it would change.
-use Rattle.std.specs.Prelude.{ℕ, ◌≡◌, refl, List, [], ◌∷◌}
+use Rattle.std.specs.Prelude.{◌≡◌, refl, [], ◌∷◌}
 use Rattle.model.specs.Table.{script}
 use Rattle.model.specs.Exec.{refuses, gives, out, out_of}
 

@@ -18,7 +18,8 @@ use Rattle.state.specs.declared.Header.{Header}
 use Rattle.state.specs.View.{Whole, whole, Rep, Holds, with_assignment, with_watches, with_clauses}
 use Rattle.state.specs.ClauseLaws.{clause_inside}
 use Rattle.state.specs.WatchSteps.{cursor_low}
-use Rattle.watching.specs.Look.{Found, nowhere, at_place, found}
+use Rattle.watching.specs.Look.{Found, nowhere, at_place}
+use Rattle.watching.proofs.Look.{found}
 use Rattle.state.specs.WatchLaws.{On, More, node_at, Gone}
 use Rattle.state.specs.Laws.{with_trail}
 use Rattle.state.specs.AssignmentLaws.{counts}

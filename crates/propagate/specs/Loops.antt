@@ -7,13 +7,14 @@ use Rattle.model.specs.State.{State}
 use Rattle.model.specs.Propagate as Definition
 use Rattle.model.specs.Propagate.{visit, propagate}
 use Rattle.lawbase.specs.Basics.{◌∈◌}
-use Rattle.assign.specs.Lists.{get_or_in}
-use Rattle.assign.specs.Reading.{trail_length}
-use Rattle.assign.specs.Searching.{qhead_formed}
+use Rattle.assign.proofs.Lists.{get_or_in}
+use Rattle.assign.proofs.Reading.{trail_length}
+use Rattle.assign.proofs.Searching.{qhead_formed}
 use Rattle.watch.specs.View.{list_of}
 use Rattle.watch.specs.Meaning.{as_count}
 use Rattle.watch.specs.declared.Cursor.{Cursor}
-use Rattle.watching.specs.Propagate.{taken, turn, Turned, onward, halted, turn_formed}
+use Rattle.watching.specs.Propagate.{taken, turn, Turned, onward, halted}
+use Rattle.watching.proofs.Propagate.{turn_formed}
 use Rattle.state.specs.declared.Header.{Header}
 use Rattle.state.specs.declared.Config.{Config}
 use Rattle.state.specs.View.{Whole, whole}

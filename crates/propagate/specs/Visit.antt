@@ -17,7 +17,8 @@ use Rattle.lawbase.specs.WellFormed.{WellFormed}
 use Rattle.watch.specs.Walk.{kept_goes, rest_goes, kept_stays, rest_stays}
 use Rattle.watching.specs.Reorder.{listed}
 use Rattle.watching.specs.Look.{put, blocked_by}
-use Rattle.watching.specs.Propagate.{turn, listed_same, propagate_enough}
+use Rattle.watching.specs.Propagate.{turn}
+use Rattle.watching.proofs.Propagate.{listed_same, propagate_enough}
 
 -- ---- the outcomes of `look`
 

@@ -9,15 +9,19 @@ use Rattle.model.specs.Propagate.{false_second, stays, goes, false_clause, look}
 use Rattle.lawbase.specs.Basics as basics
 use Rattle.lawbase.specs.Basics.{◌∈◌}
 use Rattle.lawbase.specs.WellFormed.{WellFormed}
-use Rattle.assign.specs.Lists.{get_or_in}
-use Rattle.assign.specs.Reading.{trail_range, trail_room}
+use Rattle.assign.proofs.Lists.{get_or_in}
+use Rattle.assign.proofs.Reading.{trail_range, trail_room}
 use Rattle.watch.specs.View.{list_of}
 use Rattle.watch.specs.Meaning.{as_watch, as_watches, as_count, under_clauses}
 use Rattle.watch.specs.declared.Cursor.{Cursor}
-use Rattle.watching.specs.Reorder.{listed, Looking, looking}
-use Rattle.watching.specs.Visit.{Walking, Falsified, Next, visit_formed, first_of, looked_clause, new_other, unit-unset}
+use Rattle.watching.specs.Reorder.{listed, Looking}
+use Rattle.watching.proofs.Reorder.{looking}
+use Rattle.watching.specs.Visit.{Walking, Falsified, Next}
+use Rattle.watching.proofs.Visit.{first_of, looked_clause, new_other, unit-unset}
+use Rattle.watching.proofs.Visited.{visit_formed}
 use Rattle.watching.specs.Visit as wl
-use Rattle.watching.specs.Propagate.{listed_same}
+use Rattle.watching.proofs.Visit as wl_laws
+use Rattle.watching.proofs.Propagate.{listed_same}
 use Rattle.state.specs.declared.Sizes.{Sizes}
 use Rattle.state.specs.declared.Header.{Header}
 use Rattle.state.specs.declared.Config.{Config}
@@ -187,11 +191,11 @@ module _ (g : Config) (h : Header) (w : List ℕ) (p : ℕ) (c : Cursor) (k : Wa
       let v = walking g h w p c k more in
       record {
         two = omega arith;
-        lits = λ i hi. omega (arith, (wl.whole l).range (get_or (looked_clause l) i 0) (get_or_in (looked_clause l) i 0 hi));
+        lits = λ i hi. omega (arith, (wl_laws.whole l).range (get_or (looked_clause l) i 0) (get_or_in (looked_clause l) i 0 hi));
         other = other l;
         room = λ t f. omega (
           arith,
-          trail_room k.still.formed.vars (first_of l) ((wl.whole l).range (first_of l) (here refl)) (unit-unset v l t f),
+          trail_room k.still.formed.vars (first_of l) ((wl_laws.whole l).range (first_of l) (here refl)) (unit-unset v l t f),
           assigned_counted k.still.rep,
         );
       }

@@ -7,7 +7,7 @@ use Rattle.model.specs.Script.{header, records_of, work_needed}
 use Rattle.model.specs.Script as Script
 use Rattle.ends.specs.Bounds.{Limited}
 use Rattle.script.specs.Accepted.{Accepted}
-use Rattle.laws.specs.Run.{limited}
+use Rattle.laws.proofs.Run.{limited}
 use Rattle.state.specs.declared.Config.{Config}
 use Rattle.state.specs.declared.Sizes.{Sizes}
 use Rattle.state.specs.Still.{config_of}

@@ -15,7 +15,7 @@ use Rattle.model.specs.Search as Search
 use Rattle.model.specs.Search.{Solved}
 use Rattle.model.specs.Run.{step, answers, run}
 use Rattle.lawbase.specs.WellFormed.{WellFormed}
-use Rattle.assign.specs.Initial.{initial_formed}
+use Rattle.assign.proofs.Initial.{initial_formed}
 use Rattle.script.specs.Walk.{kind_at, lead_at, count_at, first_at, literals_at, behind_at, record_at, records_from, records_step, next_at, RecordAt}
 use Rattle.script.specs.Kinds.{kind_cases, record_solve, record_other, most_count_le}
 use Rattle.script.specs.Sound.{RecordIn, Readable, readable_here, readable_next}
@@ -24,9 +24,10 @@ use Rattle.script.specs.Needs.{needed_step}
 use Rattle.script.specs.Answers.{answers_from, run-answers, answers_end}
 use Rattle.reader.specs.declared.Seen.{Seen}
 use Rattle.reader.specs.Seen.{asked_at, seen_at}
-use Rattle.ends.specs.Answer.{Idle, solve_short}
+use Rattle.ends.specs.Answer.{Idle}
+use Rattle.ends.proofs.AnswerShort.{solve_short}
 use Rattle.ends.specs.Bounds.{Limited}
-use Rattle.ends.specs.Out.{initial_idle}
+use Rattle.ends.proofs.Out.{initial_idle}
 use Rattle.activity.specs.Activities.{activity}
 use Rattle.state.specs.declared.Config.{Config}
 use Rattle.state.specs.declared.Header.{Header}

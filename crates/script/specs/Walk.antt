@@ -158,7 +158,7 @@ records_end s at h = rw (drop_of_length-le s h) (none (length s))
 rows_turn : (v n : ℕ) (s : List ℕ) (at t : ℕ) → at < length s → n ≡ length s
     → record_rows v n (suc t) at (drop at s) ≡ rows_at v s at ++ record_rows v n t (next_at s at) (drop (next_at s at) s)
 unfolding record_rows
-rows_turn v n s at t h e = rw (drop_here s at h, count_here s at, body_here s at, next_here s at (count_at s at), next_here s at (size_at s at), length-drop (at + 1) s, length-drop (first_at s at) s, e)
+rows_turn v n s at t h e = rw (e, drop_here s at h, count_here s at, body_here s at, next_here s at (count_at s at), next_here s at (size_at s at), length-drop (at + 1) s, length-drop (first_at s at) s)
 
 pub rows_step : (v : ℕ) (s : List ℕ) (at : ℕ) → at < length s → rows_from v s at ≡ rows_at v s at ++ rows_from v s (next_at s at)
 unfolding rows_from

@@ -8,12 +8,19 @@ use Rattle.model.specs.State as State
 use Rattle.model.specs.State.{decision_level}
 use Rattle.model.specs.Search as model
 use Rattle.luby.specs.Laws.{Term, luby_pos}
-use Rattle.ends.specs.Credit.{credit, credit_most, left}
-use Rattle.ends.specs.Turns.{Less, turn_less, search_most, searched_goes, searched_ends}
-use Rattle.ends.specs.Last.{Last, Between, between_start, between_step, search_last_most}
-use Rattle.ends.specs.Restart.{Again, Restarted, restarted}
-use Rattle.ends.specs.Rounds.{Round, first_round, next_round, solve_most, solved_goes, solved_ends}
-use Rattle.ends.specs.Bounds.{Limited, restarts_index, nof_most}
+use Rattle.ends.specs.Credit.{credit, left}
+use Rattle.ends.proofs.Credit.{credit_most}
+use Rattle.ends.specs.Turns.{Less}
+use Rattle.ends.proofs.MoreTurns.{search_most, searched_goes}
+use Rattle.ends.proofs.Turns.{turn_less, searched_ends}
+use Rattle.ends.specs.Last.{Last, Between}
+use Rattle.ends.proofs.Last.{between_start, between_step, search_last_most}
+use Rattle.ends.specs.Restart.{Again, Restarted}
+use Rattle.ends.proofs.Restart.{restarted}
+use Rattle.ends.specs.Rounds.{Round}
+use Rattle.ends.proofs.Rounds.{first_round, next_round, solve_most, solved_goes, solved_ends}
+use Rattle.ends.specs.Bounds.{Limited}
+use Rattle.ends.proofs.Bounds.{restarts_index, nof_most}
 use Rattle.state.specs.Still.{state_at, config_of}
 use Rattle.state.specs.declared.Config.{Config}
 use Rattle.state.specs.declared.Header.{Header}

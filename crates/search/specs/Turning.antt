@@ -13,14 +13,15 @@ use Rattle.model.specs.Propagate.{propagate}
 use Rattle.model.specs.Decide as dec
 use Rattle.model.specs.Search as model
 use Rattle.model.specs.Search.{add_learnt_and_backtrack, on_conflict, on_no_conflict, turn}
-use Rattle.assign.specs.Lists.{get_or_in}
+use Rattle.assign.proofs.Lists.{get_or_in}
 use Rattle.learning.specs.FirstUip as Uip
 use Rattle.watching.specs.Watching.{Conflict}
 use Rattle.watching.specs.Propagate.{Finished, quiet, clash}
-use Rattle.watching.specs.Forced.{advance_searching}
-use Rattle.watching.specs.Result.{Rested, Clashed, propagated}
+use Rattle.watching.proofs.Forced.{advance_searching}
+use Rattle.watching.specs.Result.{Rested, Clashed}
+use Rattle.watching.proofs.Result.{propagated}
 use Rattle.ends.specs.Credit.{Ongoing}
-use Rattle.ends.specs.Cases.{conflict_cases, no_conflict_cases}
+use Rattle.ends.proofs.Cases.{conflict_cases, no_conflict_cases}
 use Rattle.activity.specs.Activities.{activity}
 use Rattle.state.specs.View.{whole}
 use Rattle.state.specs.Still.{Still, Has, state_at, config_of}

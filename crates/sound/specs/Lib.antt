@@ -2,15 +2,10 @@
 pub mod Intake
 pub mod Mono
 pub mod Sound
-pub mod Taking
 pub mod Rows
 pub mod Answers
-pub mod Steps
-pub mod Learning
 pub mod Deciding
 pub mod Verdict
-pub mod Conflicts
-pub mod Turns
 pub mod Searches
 pub mod Solve
 pub mod Run

@@ -1,8 +1,6 @@
 -- Bytes, and the words that stand in a text.
 use Rattle.std.specs.Prelude.{ℕ, List}
-use mathlib.Core.List
 use Prim.Native.String.{String}
-use Prim.Native.String
 use Prim.Native.Char.{code}
 
 -- a text of ASCII characters

@@ -1,12 +1,11 @@
 -- Worked examples: document 01's, each refusal, and each finer point of docs/DECISIONS.md, "Text of `loadsat`".
-use Rattle.std.specs.Prelude.{ℕ, zero, suc, ◌+◌, ◌<◌, ◌≡◌, refl, List, [], ◌∷◌, ◌++◌, length}
+use Rattle.std.specs.Prelude.{ℕ, ◌<◌, ◌≡◌, refl, List, [], ◌∷◌, ◌++◌, length}
 use Prim.Native.String.{String}
-use Prim.Native.String
 use Rattle.std.proofs.lemmas.Bool.{lt-leb}
 use Rattle.text.specs.Limits.{max_cells, max_bytes}
 use Rattle.model.specs.Script.{limits, trailing}
 use Rattle.text.specs.Bytes.{bytes}
-use Rattle.text.specs.Split.{push, pieces, starts, before}
+use Rattle.text.specs.Split.{push, pieces, starts}
 use Rattle.text.specs.Number.{digit, digits, decimal, signed, literal, digits_of, shown, shown_literal}
 use Rattle.text.specs.Number as Number
 use Rattle.text.specs.Format.{

@@ -11,7 +11,6 @@ use Rattle.text.specs.Limits.{max_bytes, max_vars, first_record, bad_key, bad_nu
 use Rattle.text.specs.Bytes.{bytes}
 use Rattle.text.specs.Split.{lines, words, starts}
 use Rattle.text.specs.Number.{decimal, literal}
-use Rattle.text.specs.declared.Number.{Number}
 use Rattle.text.specs.declared.Number.TheVariants.{Bad, Value}
 
 -- ---- a line

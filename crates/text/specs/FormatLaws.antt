@@ -1,14 +1,12 @@
 -- What the code answers of a line and writes of it, and the definitions of Format by their cases.
-use Rattle.std.specs.Prelude.{ℕ, zero, suc, ◌+◌, ◌*◌, ◌-◌, ◌≤◌, ◌<◌, ◌≡◌, refl, Bool, true, false, List, [], ◌∷◌, ◌++◌, length, get_or, take, drop, set, eqb, leb}
-use Rattle.std.proofs.Common.{sym, ap, ◌∙◌, arith, add-zero, zero-add, add-suc, add-one, length-append, length-set, eq-eqb, ne_eqb, le-leb}
-use Rattle.std.proofs.lemmas.List.Edits.{sets, sets-eq}
-use Rattle.std.proofs.Math.Seq.{set_out}
-use Rattle.std.proofs.lemmas.Bool.{lt-leb}
+use Rattle.std.specs.Prelude.{ℕ, ◌+◌, ◌-◌, ◌≤◌, ◌<◌, ◌≡◌, refl, List, [], ◌∷◌, length, take, drop}
+use Rattle.std.proofs.Common.{sym, ap, ◌∙◌, arith, add-zero}
+use Rattle.std.proofs.lemmas.List.Edits.{sets}
 use Rattle.text.specs.Bytes.{blank}
 use Rattle.text.specs.Split.{before}
 use Rattle.text.specs.SplitLaws.{words_from, words_turn, words_end}
-use Rattle.text.specs.Number.{decimal, literal}
-use Rattle.text.specs.Format.{Cells, wrong, cells, one_more, literals, record_of, fitting}
+use Rattle.text.specs.Number.{literal}
+use Rattle.text.specs.Format.{Cells, wrong, cells, one_more, literals}
 use Rattle.text.specs.declared.Number.{Number}
 use Rattle.text.specs.declared.Number.TheVariants.{Bad, Value}
 use Rattle.text.specs.declared.Judged.{Judged}

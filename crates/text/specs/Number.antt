@@ -1,5 +1,5 @@
 -- Numbers and literals as words of a text: read, and printed.
-use Rattle.std.specs.Prelude.{ℕ, zero, suc, ◌+◌, ◌*◌, ◌-◌, ◌/◌, ◌%◌, Bool, true, false, ◌&&◌, List, [], ◌∷◌, ◌++◌, eqb, leb, ltb}
+use Rattle.std.specs.Prelude.{ℕ, zero, suc, ◌+◌, ◌*◌, ◌-◌, ◌/◌, ◌%◌, true, false, ◌&&◌, List, [], ◌∷◌, ◌++◌, eqb, leb, ltb}
 use Rattle.text.specs.Bytes.{minus, zero_digit, nine_digit}
 use Rattle.text.specs.Limits.{max_number}
 use Rattle.text.specs.declared.Number.{Number}

@@ -1,9 +1,8 @@
 -- The definitions of Number by their cases, as the code meets them.
-use Rattle.std.specs.Prelude.{ℕ, zero, suc, ◌+◌, ◌*◌, ◌-◌, ◌≤◌, ◌<◌, ◌≡◌, refl, Bool, true, false, ◌&&◌, List, [], ◌∷◌, length, get_or, take, drop, eqb, leb}
-use Rattle.std.proofs.Common.{sym, ap, ◌∙◌, arith, add-one, drop_of_length-le, drop-cons, eq-eqb, ne_eqb, le-leb}
+use Rattle.std.specs.Prelude.{ℕ, ◌+◌, ◌*◌, ◌-◌, ◌≤◌, ◌<◌, ◌≡◌, refl, List, [], ◌∷◌, length, get_or, drop}
+use Rattle.std.proofs.Common.{arith, add-one, drop_of_length-le, drop-cons, eq-eqb, ne_eqb, le-leb}
 use Rattle.std.proofs.lemmas.Bool.{lt-leb}
 use Rattle.text.specs.Number.{fitting, digit, digits, decimal, signed, literal}
-use Rattle.text.specs.declared.Number.{Number}
 use Rattle.text.specs.declared.Number.TheVariants.{Bad, Value}
 
 -- ---- a digit

@@ -1,8 +1,7 @@
 -- The definitions of Answers by their cases, as the code meets them.
-use Rattle.std.specs.Prelude.{ℕ, zero, suc, ◌+◌, ◌-◌, ◌*◌, ◌/◌, ◌%◌, ◌≤◌, ◌<◌, min, ◌≡◌, refl, Bool, true, false, List, [], ◌∷◌, ◌++◌, length, get_or, take, drop, eqb}
-use Rattle.std.proofs.Common.{sym, ap, ◌∙◌, arith, add-zero, zero-add, add-one, length-drop, length-take, drop_of_length-le, drop-cons, drop-drop, get_or-drop, take_all, eq-eqb, ne_eqb}
+use Rattle.std.specs.Prelude.{ℕ, zero, suc, ◌+◌, ◌-◌, ◌*◌, ◌/◌, ◌%◌, ◌≤◌, ◌<◌, min, ◌≡◌, refl, List, [], ◌∷◌, ◌++◌, length, get_or, take, drop}
+use Rattle.std.proofs.Common.{sym, ap, ◌∙◌, arith, add-zero, add-one, length-drop, drop_of_length-le, drop-cons, drop-drop, get_or-drop, take_all, eq-eqb, ne_eqb}
 use Rattle.std.proofs.Math.Decide.{dec_lt}
-use Rattle.std.proofs.Math.ListN.{get_or-eq_default}
 use Rattle.model.specs.Limits.{header_cells}
 use Rattle.model.specs.Script.{solve_kind, limits, trailing}
 use Rattle.text.specs.Bytes.{bytes}
@@ -23,7 +22,7 @@ use Rattle.text.specs.Answers.{
   printed_records,
   printed,
 }
-use Rattle.text.specs.WriteLaws.{Written, Left, left_as, left_more, left_none}
+use Rattle.text.specs.WriteLaws.{Written, Left, left_as, left_more}
 
 -- ---- a literal
 

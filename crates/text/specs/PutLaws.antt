@@ -1,6 +1,6 @@
 -- A line's cells stored behind those of the lines before it.
-use Rattle.std.specs.Prelude.{ℕ, zero, suc, ◌+◌, ◌*◌, ◌-◌, ◌≤◌, ◌<◌, ◌≡◌, refl, Bool, true, false, List, [], ◌∷◌, ◌++◌, length, get_or, take, drop, set, eqb, leb}
-use Rattle.std.proofs.Common.{sym, ap, ◌∙◌, append-nil, arith, add-zero, zero-add, add-suc, add-one, length-append, length-set, length-drop, eq-eqb, ne_eqb, le-leb}
+use Rattle.std.specs.Prelude.{ℕ, suc, ◌+◌, ◌-◌, ◌≤◌, ◌<◌, ◌≡◌, refl, Bool, true, false, List, [], ◌∷◌, ◌++◌, length, get_or, take, drop, set, eqb}
+use Rattle.std.proofs.Common.{sym, ap, ◌∙◌, append-nil, arith, add-zero, add-one, length-append, length-drop, eq-eqb, ne_eqb, le-leb}
 use Rattle.std.proofs.Math.Numerals.{add-two}
 use Rattle.std.proofs.Math.Decide.{dec_lt}
 use Rattle.std.proofs.lemmas.List.Edits.{sets}
@@ -10,23 +10,8 @@ use Rattle.text.specs.Limits.{max_cells}
 use Rattle.text.specs.Bytes.{bytes, blank}
 use Rattle.text.specs.Split.{before, starts, words}
 use Rattle.text.specs.SplitLaws.{words_from, words_turn, words_in, words_end}
-use Rattle.text.specs.Number.{decimal, literal}
-use Rattle.text.specs.Format.{
-  Cells,
-  wrong,
-  cells,
-  literals,
-  record_of,
-  fitting,
-  clause_words,
-  clause_cells,
-  solve_cells,
-  value_cells,
-  with_sizes,
-  record_cells,
-  line_cells,
-  pick,
-}
+use Rattle.text.specs.Number.{decimal}
+use Rattle.text.specs.Format.{Cells, wrong, cells, literals, record_of, fitting, clause_words, clause_cells, solve_cells, value_cells, with_sizes, record_cells, line_cells}
 use Rattle.text.specs.FormatLaws.{counted, listed, Part, Put, good, good_all}
 use Rattle.text.specs.declared.Number.{Number}
 use Rattle.text.specs.declared.Number.TheVariants.{Bad, Value}

@@ -1,10 +1,9 @@
 -- The loop over the lines.
-use Rattle.std.specs.Prelude.{ℕ, zero, suc, ◌+◌, ◌-◌, ◌≤◌, ◌<◌, min, ◌≡◌, refl, Bool, true, false, List, [], ◌∷◌, ◌++◌, length, get_or, take, drop, eqb, leb, ltb}
-use Rattle.std.proofs.Common.{sym, ap, ◌∙◌, append-nil, arith, add-zero, zero-add, length-append, length-drop, take-append-drop, drop_of_length-le, length-take-le, take_at, drop_at, get_or-take, drop-drop, eq-eqb, ne_eqb, le-leb, lt-ltb, le-ltb, leb-true}
-use Rattle.std.proofs.Math.Decide.{dec_lt, ℕ_discrete}
+use Rattle.std.specs.Prelude.{ℕ, ◌+◌, ◌-◌, ◌≤◌, ◌<◌, ◌≡◌, refl, Bool, true, false, List, [], ◌∷◌, ◌++◌, length, get_or, take, drop, eqb, leb}
+use Rattle.std.proofs.Common.{sym, ap, ◌∙◌, arith, add-zero, length-append, take-append-drop, drop_of_length-le, length-take-le, take_at, drop_at, get_or-take, drop-drop, le-leb, lt-ltb, le-ltb, leb-true}
+use Rattle.std.proofs.Math.Decide.{dec_lt}
 use Rattle.std.proofs.Math.ListN.{get_or-append}
-use Rattle.std.proofs.lemmas.List.Edits.{sets, sets-eq}
-use Rattle.std.proofs.Math.Seq.{length-sets}
+use Rattle.std.proofs.lemmas.List.Edits.{sets-eq}
 use Rattle.std.proofs.lemmas.Bool.{lt-leb}
 use Rattle.text.specs.Limits.{max_cells, max_bytes}
 use Rattle.text.specs.Bytes.{bytes}
@@ -33,7 +32,7 @@ use Rattle.text.specs.Format.{
   read_lines,
   read_text,
 }
-use Rattle.text.specs.FormatLaws.{counted, listed, Part, Put}
+use Rattle.text.specs.FormatLaws.{listed, Part, Put}
 use Rattle.text.specs.PutLaws.{Space, counted_wrong, counted_good, part_room, value_key, value_bad, value_good, record_clause, record_solve, record_neither, line_1}
 use Rattle.text.specs.declared.Number.{Number}
 use Rattle.text.specs.declared.Number.TheVariants.{Bad, Value}

@@ -1,5 +1,5 @@
 -- A text cut at a byte: into lines at newlines, a line into words at blanks.
-use Rattle.std.specs.Prelude.{ℕ, zero, suc, ◌+◌, Bool, true, false, List, [], ◌∷◌, length, drop, eqb, leb}
+use Rattle.std.specs.Prelude.{ℕ, Bool, true, false, List, [], ◌∷◌, eqb}
 use Rattle.text.specs.Bytes.{newline, blank}
 
 -- a byte in front of the first piece

@@ -1,28 +1,27 @@
 -- What the steps of a tour keep, and how each step keeps it.
 use Rattle.std.specs.Prelude.{ℕ, zero, suc, ◌+◌, ◌-◌, ◌*◌, ◌≤◌, ◌<◌, ◌≡◌, Bool, ◌≢◌, List, [], ◌∷◌, ◌++◌, length, get_or, take}
-use Rattle.std.proofs.Common.{arith, not-suc-le-zero, sym, ap, subst, ◌∙◌, length-append, length-take, ltb-true, ltb-false}
+use Rattle.std.proofs.Common.{arith, not-suc-le-zero, sym, ap, ◌∙◌, ltb-true, ltb-false}
 use Rattle.std.proofs.Math.Path.{refl}
 use Rattle.std.proofs.Math.Bool.{true, false}
-use Rattle.std.proofs.lemmas.List.{get_or_at}
 use Rattle.std.proofs.Math.Dec.{ltb}
 use Rattle.model.specs.Lit.{var}
-use Rattle.model.specs.State.{State, VarState, initial_state, decision_level}
+use Rattle.model.specs.State.{State, initial_state, decision_level}
 use Rattle.model.specs.Trail.{unchecked_enqueue, new_decision_level, vars_until, level_end}
 use Rattle.model.specs.Store.{stored_literals}
 use Rattle.trail.specs.View.{LitsOf, Undoable, enqueued, next_level, until}
-use Rattle.store.specs.View.{lit_pushed, discarded, put_pushed}
+use Rattle.store.specs.View.{lit_pushed, put_pushed}
 use Rattle.store.specs.Cells.{put_pushed_more}
-use Rattle.watch.specs.View.{list_of, blocked}
+use Rattle.watch.specs.View.{blocked}
 use Rattle.litset.specs.View.{Members}
 use Rattle.watch.specs.declared.Cursor.{Cursor}
 use Rattle.state.specs.declared.Sizes.{Sizes}
 use Rattle.state.specs.declared.Header.{Header}
-use Rattle.state.specs.View.{Whole, whole, state_of, Rep, Holds, with_assignment, with_watches, with_clauses, with_final}
+use Rattle.state.specs.View.{Whole, whole, Rep, Holds, with_assignment, with_watches, with_clauses, with_final}
 use Rattle.state.specs.StartLaws.{Started}
 use Rattle.state.specs.AssignmentLaws.{whole_until, assigned_counted, levels_counted}
-use Rattle.state.specs.ClauseLaws.{count_is, literals_is, pushed_is}
+use Rattle.state.specs.ClauseLaws.{count_is, literals_is}
 use Rattle.state.specs.WatchLaws.{More, Gone}
-use Rattle.state.specs.Fresh.{Fresh, fresh_same, fresh-blocked, fresh_gone, Storable, Stored, stored_in}
+use Rattle.state.specs.Fresh.{Fresh, fresh_same, fresh-blocked, fresh_gone, Storable, Stored}
 
 -- the literals of the trail are of variables
 abbrev pub Lits : Sizes → Whole → Type 0

@@ -1,10 +1,9 @@
 -- What each step of a tour makes of the header and of what the blocks hold.
-use Rattle.std.specs.Prelude.{ℕ, ◌+◌, ◌-◌, ◌*◌, ◌≤◌, ◌<◌, ◌≡◌, refl, Bool, true, false, ◌≢◌, List, [], ◌∷◌, length, get_or, leb, ltb, eqb}
+use Rattle.std.specs.Prelude.{ℕ, ◌+◌, ◌-◌, ◌*◌, ◌≤◌, ◌<◌, ◌≡◌, Bool, true, false, ◌≢◌, List, [], ◌∷◌, length, get_or, leb, ltb, eqb}
 use Rattle.std.proofs.Common.{sym, ap₂, ◌∙◌, lt-ltb, le-ltb, le-leb, eq-eqb, ne_eqb}
 use Rattle.std.proofs.Math.Path.{ap}
 use Rattle.std.proofs.lemmas.Bool.{lt-leb}
 use Rattle.model.specs.Lit.{var}
-use Rattle.model.specs.State.{VarState}
 use Rattle.model.specs.Trail.{level_end}
 use Rattle.model.specs.Final.{insert}
 use Rattle.trail.specs.View.{enqueued, next_level}

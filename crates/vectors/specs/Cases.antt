@@ -1,7 +1,6 @@
 -- A case is a script, as text, with what it comes to; `failing` runs the definition over a list of cases.
 use Rattle.std.specs.Prelude.{ℕ, ◌+◌, ◌*◌, ◌-◌, Bool, true, false, List, [], ◌∷◌, eqb, get_or}
 use Prim.Native.String.{String}
-use Prim.Native.String
 use Prim.Native.Char.{code}
 use Rattle.model.specs.Exec.{Outcome, refuses, gives, out_of, out}
 

@@ -60,7 +60,7 @@ module _ (s : Watches) where
 
   pub as_list_of : (l : ℕ) → get_or (as_watches s) l [] ≡ as_list s.blockers (list_of s l)
   unfolding as_watches
-  as_list_of l = ListN.get_d_map (as_list s.blockers) s.lists l []
+  as_list_of l = ListN.get_or-map (as_list s.blockers) s.lists l []
 
   pub as_count : (l : ℕ) → length (get_or (as_watches s) l []) ≡ length (list_of s l)
   as_count l = ap length (as_list_of l) ∙ length-map (list_of s l) (as_watch s.blockers)
@@ -103,14 +103,14 @@ as_appended l x b s hl free hx =
     let bs = s.blockers in
     let none : occ x (list_of s l) ≡ 0 = omega (arith, sum_get (occ x) s.lists l [] hl) in
     map-set (as_list (set bs x b)) s.lists l (list_of s l ++ (x ∷ []))
-    ∙ rw (lists_frame bs x b s.lists free, map-append, list_frame bs x b (list_of s l) none, get_or-set_same bs x b 0 hx, ListN.get_d_map (as_list bs) s.lists l [])
+    ∙ rw (lists_frame bs x b s.lists free, map-append, list_frame bs x b (list_of s l) none, get_or-set_same bs x b 0 hx, ListN.get_or-map (as_list bs) s.lists l [])
 
 pub as_unlinked : (l i : ℕ) (s : Watches) → as_watches (unlinked l i s) ≡ set (as_watches s) l (without i (get_or (as_watches s) l []))
 unfolding as_watches unlinked
 as_unlinked l i s =
     let f = as_watch s.blockers in
     map-set (as_list s.blockers) s.lists l (without i (list_of s l))
-    ∙ rw (ListN.get_d_map (as_list s.blockers) s.lists l [], map-append, map-take f, map-drop f)
+    ∙ rw (ListN.get_or-map (as_list s.blockers) s.lists l [], map-append, map-take f, map-drop f)
 
 -- a move is an unlinking and an append
 pub moved_is : (l i m b : ℕ) (s : Watches) → l ≢ m → moved l i m b s ≡ appended m (get_or (list_of s l) i 0) b (unlinked l i s)
@@ -139,7 +139,7 @@ module _ (l i : ℕ) (s : Watches) (apart : Apart s.lists) (hl : l < length s.li
       let back : ls ≡ set (set ls l []) l xs = sym (set-set ls l [] xs ∙ set-get_or ls l []) in
       ap (map (as_list (set bs x b))) back
       ∙ map-set (as_list (set bs x b)) (set ls l []) l xs
-      ∙ rw (lists_frame bs x b (set ls l []) free, map-set (as_list bs) ls l [], set-set, list_blocked bs x b xs i once hi refl hx, ListN.get_d_map (as_list bs) ls l [])
+      ∙ rw (lists_frame bs x b (set ls l []) free, map-set (as_list bs) ls l [], set-set, list_blocked bs x b xs i once hi refl hx, ListN.get_or-map (as_list bs) ls l [])
 
 pub as_emptied : (n : ℕ) (s : Watches) → as_watches (emptied n s) ≡ replicate n []
 unfolding as_watches emptied

@@ -1,17 +1,9 @@
 -- A decision keeps the clauses covered.
-use Rattle.std.specs.Prelude.{◌≡◌, refl, List, [], ◌∷◌, ℕ, ◌*◌, ◌<◌, length, drop, Float}
-use mathlib.Core.List.Memᴰ.{head as here}
-use Rattle.model.specs.State.{State, decision_level, with_vars}
+use Rattle.std.specs.Prelude.{◌≡◌, length}
+use Rattle.model.specs.State.{State}
 use Rattle.model.specs.Script.{Config}
-use Rattle.model.specs.Trail.{new_decision_level}
-use Rattle.model.specs.Decide.{Decision, decided, complete, failed, assume, decide}
-use Rattle.lawbase.specs.Basics.{Every, shrink}
-use Rattle.assign.specs.Lists.{in_drop}
-use Rattle.assign.specs.Reading.{unset_of}
-use Rattle.assign.specs.Pick.{branch_some}
-use Rattle.assign.specs.Decide.{assume_nil, assume-cons}
+use Rattle.model.specs.Decide.{Decision, decided, complete, failed}
 use Rattle.watching.specs.Watching.{Watching}
-use Rattle.watching.specs.Moves.{level_watching, decision_watching}
 
 -- where nothing is decided, all stays propagated
 pub record Resting (cfg : Config) (s : State) : Type 0 where
@@ -22,26 +14,3 @@ abbrev pub Decides : Config → Decision → Type 0
 Decides cfg (decided s) = Watching cfg s
 Decides cfg (complete s) = Resting cfg s
 Decides cfg (failed s final) = Resting cfg s
-
-level_resting : {cfg : Config} {s : State} → Resting cfg s → Resting cfg (with_vars s (new_decision_level s.vars))
-unfolding new_decision_level
-level_resting h = record { watching = level_watching h.watching h.rest; rest = h.rest }
-
-assume_watching : {cfg : Config} (act : List Float) (ps : List ℕ) {s : State} → Every (λ p. p < 2 * cfg.variables) ps → Resting cfg s
-    → Decides cfg (assume act ps s)
-assume_watching {cfg} act [] {s} range h =
-    assume_nil (Decides cfg) act s (λ e. h) (λ p e. decision_watching h.watching h.rest p (branch_some h.watching.formed act p e))
-assume_watching {cfg} act (p ∷ ps) {s} range h =
-    assume-cons (Decides cfg) act p ps s
-    (λ t. assume_watching act ps (shrink range) (level_resting h))
-    (λ a b. h)
-    (λ a b.
-    decision_watching h.watching h.rest p
-    (record { range = range p (here refl); unset = unset_of h.watching.formed.vars p (range p (here refl)) a b }))
-
--- once all is propagated
-pub decide_watching : {cfg : Config} (act : List Float) (assumptions : List ℕ) {s : State} → Every (λ p. p < 2 * cfg.variables) assumptions
-    → Resting cfg s → Decides cfg (decide act assumptions s)
-unfolding decide
-decide_watching act ps {s} range h =
-    assume_watching act (drop (decision_level s.vars) ps) (λ p i. range p (in_drop (decision_level s.vars) ps i)) h

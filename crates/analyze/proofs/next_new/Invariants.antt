@@ -1,0 +1,15 @@
+use Prim.Native.Nat.{◌+◌, ◌-◌, ◌≤◌}
+use mathlib.Core.Path.{◌≡◌}
+use lib.ListN.{length, drop}
+use Rattle.state.specs.View.{whole}
+use Rattle.analyze.specs.Joining.{next_new}
+use Rattle.analyze.proofs.next_new.Given as goal
+
+abbrev pub invariant-loop-k : goal.invariant-loop-k
+invariant-loop-k l =
+    (l.i ≤ l.k) × (l.k ≤ length l.part)
+    × (l.k + next_new (whole l.d l.h l.work).assignment.vars (whole l.d l.h l.work).scratch.marks (drop l.k l.part)
+    ≡ l.i + next_new (whole l.d l.h l.work).assignment.vars (whole l.d l.h l.work).scratch.marks (drop l.i l.part))
+
+abbrev pub decreases-loop-k : goal.decreases-loop-k
+decreases-loop-k l = length l.part - l.k

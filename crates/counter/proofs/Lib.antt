@@ -1,0 +1,9 @@
+pub mod Wrote
+pub mod Says
+pub mod Extend
+pub mod Ranges
+pub mod Theorem
+pub mod ReadsLaws
+pub mod Writing
+pub mod JudgeLaws
+pub mod Answers

@@ -1,0 +1,4 @@
+use Rattle.counter.proofs.clauses.deny.Goals as goal
+
+pub returns : goal.returns
+returns c = rw c.negate.ensures at c.put_clause.ensures

@@ -1,0 +1,10 @@
+use Prim.Native.Nat.{◌-◌, ◌≤◌}
+use Rattle.counter.specs.Counter.{zeros}
+use Rattle.counter.specs.Wrote.{Left}
+use Rattle.counter.proofs.clauses.zeros.Given as goal
+
+abbrev pub invariant-loop-j : goal.invariant-loop-j
+invariant-loop-j l = Left l.initial.out l.at (zeros l.base 0 (l.k - 1)) l.out l.to (zeros l.base l.j (l.k - 1 - l.j)) × (l.j ≤ l.k)
+
+abbrev pub decreases-loop-j : goal.decreases-loop-j
+decreases-loop-j l = l.k - l.j

@@ -1,0 +1,19 @@
+-- Every solve ends: what falls with each turn, how many turns and conflicts there are, and how long an answer is.
+pub mod Fixed
+pub mod Credit
+pub mod Learns
+pub mod Cases
+pub mod Comes
+pub mod Turns
+pub mod MoreTurns
+pub mod Last
+pub mod Restart
+pub mod Rounds
+pub mod Bounds
+pub mod ConflictsWord
+pub mod Answer
+pub mod AnswerShort
+pub mod Out
+pub mod Storage
+pub mod StorageExact
+pub mod Spends

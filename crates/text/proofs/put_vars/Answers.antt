@@ -1,0 +1,12 @@
+use Rattle.text.specs.PutLaws.{put_vars_wrong, put_vars}
+use Rattle.text.proofs.put_vars.Goals as goal
+
+pub returns-in-Wrong : goal.returns-in-Wrong
+returns-in-Wrong c =
+    let a = c.args in
+    put_vars_wrong a.room a.used c.in-Wrong.number a.key.now a.line.now a.script.now c.read_field.result c.read_field.ensures c.in-Wrong.is
+
+pub returns-in-Is : goal.returns-in-Is
+returns-in-Is c =
+    let a = c.args in
+    put_vars a.room a.used c.in-Is.x a.key.now a.line.now a.script.now _ c.read_field.result c.put_sizes.result c.read_field.ensures c.in-Is.is c.put_sizes.ensures

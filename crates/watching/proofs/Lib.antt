@@ -1,0 +1,22 @@
+-- Watched literals: the store, what `propagate` keeps and reaches, and what the other steps of a run keep of it.
+pub mod Permuted
+pub mod Store
+pub mod Attach
+pub mod Look
+pub mod Lists
+pub mod Reorder
+pub mod Visit
+pub mod Visited
+pub mod Propagate
+pub mod Covered
+pub mod Cover
+pub mod Watching
+pub mod Moves
+pub mod MoreMoves
+pub mod Forced
+pub mod Result
+pub mod Decide
+pub mod Sort
+pub mod Simplify
+pub mod Simplified
+pub mod Intake

@@ -478,9 +478,8 @@ def compare(count, seed, program):
 
 HEAD = """-- %s
 -- Made by tools/vectors.py --antt from vectors/%s.txt.
-use mathlib.Core.Path.{_≡_, refl}
-use mathlib.Core.List.{List, [], _∷_}
-use Rattle·vectors·specs.specs.Cases.{Case, %s, failing}
+use Rattle.std.specs.Prelude.{◌≡◌, refl, List, [], ◌∷◌}
+use Rattle.vectors.specs.Cases.{Case, %s, failing}
 """
 
 
@@ -505,9 +504,9 @@ def theorems(cases):
         weight += cost
     text = ""
     for number, part in enumerate(parts, 1):
-        name = "cases" if len(parts) == 1 else "cases-%d" % number
+        name = "cases" if len(parts) == 1 else "cases_%d" % number
         text += "\n%s : List Case\n%s =\n%s\n    []\n" % (name, name, "\n".join(part))
-        text += "\nall-hold%s : failing %s ≡ []\nunfolding %s failing\nall-hold%s = refl\n" % (name[5:], name, name, name[5:])
+        text += "\nall_hold%s : failing %s ≡ []\nunfolding %s failing\nall_hold%s = refl\n" % (name[5:], name, name, name[5:])
     return text
 
 
@@ -554,7 +553,7 @@ def antt(folder):
     with open(os.path.join(specs, "Lib.antt"), "w", encoding="utf-8") as file:
         file.write("".join("pub mod %s\n" % module for module in ["Cases", *modules]))
     with open(os.path.join(src, "lib.rt"), "w", encoding="utf-8") as file:
-        file.write("// Scripts with their out cells, run by the definition.\n")
+        file.write("// Scripts with their out cells, run by the definition.\n\n#![tactic(auto)]\n")
     print("%d cases" % sum(len(chosen) for _, chosen in modules.values()))
 
 

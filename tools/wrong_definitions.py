@@ -161,7 +161,9 @@ def try_edit(label):
             run = subprocess.run(["rt", "check"], cwd=os.path.join(crates, crate), capture_output=True, text=True)
             if run.returncode:
                 break
-        first = re.search(r"(?:specs|proofs)/(\w+)\.antt:\d+:\d+: error: `([^`]*)`: ([^\n]*(?:\n  [^\n]*)*)", run.stdout + run.stderr)
+        # of the claims that no longer hold, the one that is named for it, else the first
+        said = list(re.finditer(r"(?:specs|proofs)/(\w+)\.antt:\d+:\d+: error: `([^`]*)`: ([^\n]*(?:\n  [^\n]*)*)", run.stdout + run.stderr))
+        first = next((e for e in said if (crate,) + e.group(1, 2) == CLAIMS[label]), said[0] if said else None)
         if run.returncode == 0 or not first:
             print("%s: NOT REFUSED" % label)
             return False

@@ -1,32 +1,19 @@
 -- The pick from the first unset variable on, with the best one's activity kept beside it.
-use Rattle.std.specs.Prelude.{ℕ, zero, suc, ◌+◌, ◌≤◌, ◌<◌, ◌≡◌, refl, Bool, true, false, List, length, get_or, drop, eqb, Float}
-use Rattle.std.proofs.Common.{arith, add-one, sym, subst, ◌∙◌}
-use Rattle.std.proofs.Math.Decide.{ℕ_discrete}
-use Rattle.std.proofs.Math.Option.{Option, none, some}
+use Rattle.std.specs.Prelude.{ℕ, zero, suc, ◌+◌, ◌≤◌, ◌<◌, ◌≡◌, refl, false, List, length, get_or, drop, eqb, position, ◌==◌, Float, Option as Found, Some, None}
+use Rattle.std.proofs.Common.{arith, add-one, sym, subst, ◌∙◌, lt-ltb}
+use Rattle.std.specs.List.{position_or_len}
+use Rattle.std.proofs.lemmas.List.Sums.{fails_before_first}
+use Rattle.std.proofs.lemmas.List.Quantifiers.{position-Some}
+use Rattle.std.proofs.lemmas.Option.{none-some}
+use Rattle.std.proofs.Math.Decide.{dec_lt}
+use Rattle.std.specs.Prelude.{Option, None as none, Some as some}
 use Rattle.std.specs.Float.{nan}
-use Rattle.std.specs.Float.Ieee.{lt}
 use Rattle.model.specs.Lit.{l_undef}
 use Rattle.model.specs.Decide.{pick}
 use Rattle.model.specs.Limits.{max_variables}
 use Rattle.activity.specs.declared.Best.{Best}
-use Rattle.activity.specs.declared.Choice.{Choice}
-use Rattle.activity.specs.declared.Choice.TheVariants.{Of, Nothing}
+use Rattle.clause.specs.declared.Var.{Var}
 use Rattle.activity.specs.Pick.{better, pick_more, pick_last}
-
--- r is the first unset variable, or the number of variables
-pub record First (values : List ℕ) (r : ℕ) : Type 0 where
-  pub within : r ≤ length values
-  pub before : (v : ℕ) → v < r → eqb (get_or values v 0) l_undef ≡ false
-  pub unset : r < length values → eqb (get_or values r 0) l_undef ≡ true
-
--- one more variable is set
-pub set_more : (values : List ℕ) (i : ℕ) → ((v : ℕ) → v < i → eqb (get_or values v 0) l_undef ≡ false) → eqb (get_or values i 0) l_undef ≡ false
-    → (v : ℕ) → v < i + 1 → eqb (get_or values v 0) l_undef ≡ false
-set_more values i s e v h = go (ℕ_discrete v i)
-  where
-    go : Dec (v ≡ i) → eqb (get_or values v 0) l_undef ≡ false
-    go (yes p) = rw p e
-    go (no p) = s v (omega arith)
 
 -- there is an activity for each variable
 pub record Sizes (values : List ℕ) (act : List Float) : Type 0 where
@@ -39,9 +26,9 @@ pub record Leads (act : List Float) (values : List ℕ) (b : Best) : Type 0 wher
   pub top : b.top ≡ get_or act b.var.0 nan
 
 -- what is picked
-abbrev pub choice_of : Choice → Option ℕ
-choice_of (Of v) = some v.0
-choice_of Nothing = none
+abbrev pub var_of : Found Var → Option ℕ
+var_of (Some v) = some v.0
+var_of None = none
 
 module _ (act : List Float) (values : List ℕ) where
   -- the set variables are passed by
@@ -51,26 +38,17 @@ module _ (act : List Float) (values : List ℕ) where
       let stays : none ≡ better act none k (get_or values k 0) = rw (s k (omega arith), better) in
       subst (λ (i : ℕ). pick act none i (drop i values) ≡ pick act none 0 values) (add-one k) (pick_more act values none none k (omega arith) stays ∙ passed k (omega arith) (λ v g. s v (omega arith)))
 
-  pub none_unset : (r : ℕ) → First values r → r ≡ length values → none ≡ pick act none 0 values
-  none_unset r f e = sym (pick_last act values none r (omega arith)) ∙ passed r f.within f.before
-
-  pub from_first : (r : ℕ) → First values r → r < length values → pick act (some r) (r + 1) (drop (r + 1) values) ≡ pick act none 0 values
-  from_first r f h =
-      let takes : some r ≡ better act none r (get_or values r 0) = rw (f.unset h, better) in
-      pick_more act values none (some r) r h takes ∙ passed r f.within f.before
-
--- ---- one more variable
-
-module _ (act : List Float) (b v x : ℕ) where
-  pub better_takes : lt (get_or act b nan) (get_or act v nan) ≡ true → eqb x l_undef ≡ true → some v ≡ better act (some b) v x
-  better_takes l e = rw (e, l, better)
-
-  pub better-set : eqb x l_undef ≡ false → some b ≡ better act (some b) v x
-  better-set e = rw (e, better)
-
-  pub better_less : lt (get_or act b nan) (get_or act v nan) ≡ false → some b ≡ better act (some b) v x
-  better_less l = go (eqb x l_undef) refl
+  pub none_unset : position (λ x. x == l_undef) values ≡ None → none ≡ pick act none 0 values
+  none_unset e = go (position_or_len (λ x. x == l_undef) values) refl (dec_lt (position_or_len (λ x. x == l_undef) values) (length values))
     where
-      go : (t : Bool) → eqb x l_undef ≡ t → some b ≡ better act (some b) v x
-      go false e = better-set e
-      go true e = rw (e, l, better)
+      go : (k : ℕ) → position_or_len (λ x. x == l_undef) values ≡ k → Dec (k < length values) → none ≡ pick act none 0 values
+      go k q (yes h) = absurd (none-some k (sym e ∙ rw (q, lt-ltb k (length values) h)))
+      go k q (no h) =
+          sym (pick_last act values none (length values) (omega arith))
+          ∙ passed (length values) (omega arith) (λ v g. fails_before_first (λ x. x == l_undef) values v 0 (omega (arith, q)))
+
+  pub from_first : (r : ℕ) → position (λ x. x == l_undef) values ≡ Some r → (r < length values) × (pick act (some r) (r + 1) (drop (r + 1) values) ≡ pick act none 0 values)
+  from_first r e =
+      let f = position-Some (λ x. x == l_undef) values r 0 e in
+      let takes : some r ≡ better act none r (get_or values r 0) = rw (f.1, better) in
+      (f.0, pick_more act values none (some r) r f.0 takes ∙ passed r (omega arith) f.2)

@@ -1,4 +1,3 @@
 pub mod Leading
-pub mod Mapped
 pub mod Activities
 pub mod Pick

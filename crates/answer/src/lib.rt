@@ -15,6 +15,7 @@ ghost use Rattle.state.specs.Still.{Has, state_at, config_of};
 ghost use Rattle.search.specs.Held.{solver_at, status_of, searched_of, Assumable, Left};
 ghost use Rattle.answer.specs.Answered.{Between, Answered};
 
+use cells::{Cause, Verdict};
 use search::{Searched, Solver, Status};
 use state::{Config, Header};
 
@@ -41,7 +42,7 @@ fn put_answer(g: Config, r: Searched, work: &[u32], out: &mut [u32], at: usize) 
             cells::put_solve(
                 out,
                 at,
-                0,
+                Verdict::True,
                 r.conflicts,
                 state::assignment::values(d, h, work),
             )
@@ -50,13 +51,13 @@ fn put_answer(g: Config, r: Searched, work: &[u32], out: &mut [u32], at: usize) 
             cells::put_solve(
                 out,
                 at,
-                1,
+                Verdict::False,
                 r.conflicts,
                 state::marks::final_items(d, h, work),
             )
         }
-        Status::Undef => cells::put_stopped(out, at, r.conflicts, 1),
-        Status::NoStorage => cells::put_stopped(out, at, r.conflicts, 2),
+        Status::Undef => cells::put_stopped(out, at, r.conflicts, Cause::Budget),
+        Status::NoStorage => cells::put_stopped(out, at, r.conflicts, Cause::Storage),
     }
 }
 
@@ -140,8 +141,7 @@ pub fn solve(
     if h.ok {
         return solve_ok(g, x, work, act, assumptions, budget, out, at);
     }
-    let none: [u32; 0] = [];
-    let end = cells::put_solve(out, at, 1, 0, &none);
+    let end = cells::put_solve(out, at, Verdict::False, 0, &[]);
     Next { solver: x, at: end }
 }
 

@@ -1,6 +1,6 @@
 -- The next decision is of an unset variable; where there is none, every variable has a value.
 use Rattle.std.specs.Prelude.{ℕ, ◌*◌, ◌<◌}
-use Rattle.std.proofs.Math.Option.{Option, none, some}
+use Rattle.std.specs.Prelude.{Option, None as none, Some as some}
 use Rattle.model.specs.State.{State}
 use Rattle.assign.specs.Reading.{Unset}
 

@@ -1,7 +1,7 @@
 -- Cells written one after the other, as a list that is pasted over another.
 use Rattle.std.specs.Prelude.{ℕ, suc, ◌+◌, ◌≤◌, ◌<◌, ◌≡◌, List, [], ◌∷◌, ◌++◌, length, set, take, drop}
 use Rattle.std.proofs.Common.{arith, sym, ap, ap₂, ◌∙◌, append_assoc, length-set, take-suc-set, drop-set-lt}
-use Rattle.std.proofs.Math.Seq.{paste, paste-zero}
+use Rattle.std.proofs.Math.Seq.{paste}
 use Rattle.model.specs.Search.{cells}
 
 rests : (at n : ℕ) → suc at + n ≡ at + suc n
@@ -12,9 +12,6 @@ pub paste_cons : {A : Type 0} (d : List A) (at : ℕ) (y : A) (ys : List A) (n :
 paste_cons d at y ys n h =
     ap₂ (λ a b. (a ++ take n ys) ++ b) (take-suc-set d at y h) (drop-set-lt (suc at + n) d at y (omega arith) ∙ ap (λ k. drop k d) (rests at n))
     ∙ ap (λ a. a ++ drop (at + suc n) d) (append_assoc (take at d) (y ∷ []) (take n ys))
-
-pub paste_one : {A : Type 0} (d : List A) (at : ℕ) (y : A) → at < length d → set d at y ≡ paste d at (y ∷ []) 1
-paste_one d at y h = paste-zero (set d at y) (suc at) [] ∙ paste_cons d at y [] 0 h
 
 -- the three cells before a solve's body, then the body
 pub paste_solve : (d : List ℕ) (at answer conflicts : ℕ) (body : List ℕ) → at + 3 ≤ length d

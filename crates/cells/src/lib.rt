@@ -4,18 +4,30 @@
 ghost use Rattle.std.specs.Prelude.{◌≡◌, [], ◌∷◌, ◌+◌, ◌≤◌, length};
 ghost use Rattle.model.specs.Search.{cells};
 ghost use Rattle.std.proofs.Math.Seq.{paste};
+ghost use Rattle.model.specs.Lit.{l_undef};
+ghost use Rattle.cells.specs.Number.{verdict_cell, cause_cell};
+
+// A solve's first cell.
+#[derive(Clone, Copy, Debug, PartialEq, Eq)]
+pub enum Verdict {
+    True = 0,
+    False = 1,
+    Undef = 2,
+}
+
+// Why a solve was stopped: the cell behind the count of UNDEF.
+#[derive(Clone, Copy, Debug, PartialEq, Eq)]
+pub enum Cause {
+    Budget = 1,
+    Storage = 2,
+}
 
 // The cells of `from` go to out, from `at` on.
 pub fn put(out: &mut [u32], at: usize, from: &[u32])
     requires { at + length from.now ≤ length out.old }
     ensures { out.new ≡ paste out.old at from.now (length from.now) }
 {
-    let n = from.len();
-    let mut i = 0;
-    while i < n {
-        out[at + i] = from[i];
-        i += 1;
-    }
+    out[at..at + from.len()].copy_from_slice(from);
 }
 
 // One cell.
@@ -26,25 +38,29 @@ pub fn put_one(out: &mut [u32], at: usize, x: u32)
     out[at] = x;
 }
 
-// A solve's answer, its conflicts, and the cells behind the count; returns the place behind them.
-pub fn put_solve(out: &mut [u32], at: usize, answer: u32, conflicts: u32, body: &[u32]) -> usize
+// A solve's verdict, its conflicts, and the cells behind the count; returns the place behind them.
+pub fn put_solve(
+    out: &mut [u32],
+    at: usize,
+    verdict: Verdict,
+    conflicts: u32,
+    body: &[u32],
+) -> usize
     requires body_in_bounds { at + 3 + length body.now ≤ length out.old }
     requires body_len_bound { length body.now ≤ 4294967295 }
-    ensures { (out.new ≡ paste out.old at (cells answer conflicts body.now) (3 + length body.now)) × (result ≡ at + 3 + length body.now) }
+    ensures { (out.new ≡ paste out.old at (cells (verdict_cell verdict) conflicts body.now) (3 + length body.now)) × (result ≡ at + 3 + length body.now) }
 {
-    let n = body.len();
-    out[at] = answer;
+    out[at] = verdict as u32;
     out[at + 1] = conflicts;
-    out[at + 2] = n as u32;
+    out[at + 2] = body.len() as u32;
     put(out, at + 3, body);
-    at + 3 + n
+    at + 3 + body.len()
 }
 
 // A stopped solve: its cause.
-pub fn put_stopped(out: &mut [u32], at: usize, conflicts: u32, cause: u32) -> usize
+pub fn put_stopped(out: &mut [u32], at: usize, conflicts: u32, cause: Cause) -> usize
     requires { at + 4 ≤ length out.old }
-    ensures { (out.new ≡ paste out.old at (cells 2 conflicts (cause ∷ [])) 4) × (result ≡ at + 4) }
+    ensures { (out.new ≡ paste out.old at (cells (l_undef) conflicts (cause_cell cause ∷ [])) 4) × (result ≡ at + 4) }
 {
-    let body = [cause];
-    put_solve(out, at, 2, conflicts, &body)
+    put_solve(out, at, Verdict::Undef, conflicts, &[cause as u32])
 }

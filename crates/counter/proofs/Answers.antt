@@ -1,15 +1,14 @@
 -- What a call promises: its answer and the whole of the slice, as the definition has them.
-use Rattle.std.specs.Prelude.{ℕ, ◌≤◌, ◌<◌, ◌≡◌, true, false, List, [], ◌∷◌, ◌++◌, length, drop}
+use Rattle.std.specs.Prelude.{ℕ, ◌≤◌, ◌<◌, ◌≡◌, true, false, List, [], ◌∷◌, ◌++◌, length, drop, Result, Ok, Err, IsErrAnd}
 use native.Mathlib.Omega.{arith}
 use Rattle.std.proofs.Math.Path.{refl}
-use Rattle.std.proofs.Common.{ap, sym, ◌∙◌, subst}
+use Rattle.std.proofs.Common.{ap, sym, ◌∙◌}
 use Rattle.model.specs.Script.{Row, row, refused, accepted, judge, header}
 use Rattle.model.specs.Run as model
 use Rattle.model.specs.Run.{turned_back, ran}
-use Rattle.script.specs.declared.Judgement.{Judgement}
-use Rattle.script.specs.declared.Judgement.TheVariants as J
+use Rattle.refusal.specs.declared.Refusal.{Refusal}
+use Rattle.refusal.specs.Number.{number}
 use Rattle.script.specs.Judging.{Judged, Hold, accepted_hold}
-use Rattle.counter.specs.declared.Answer.TheVariants.{Refused, Written}
 use Rattle.counter.specs.Counter.{at_most, counter, negations, cells, at_most_rows, first_failing, After, after}
 use Rattle.counter.specs.Wrote.{Wrote}
 use Rattle.counter.proofs.Wrote.{wrote_front}
@@ -39,11 +38,6 @@ at_most-all k first ls s l =
     at_most_cases (λ (cs : List (List ℕ)). cs ≡ []) k first ls (λ z. absurd (omega arith)) (λ s m. absurd (omega arith)) (λ m. refl)
 
 -- ---- from the judgement to the answer
-
--- what a judgement of all the rows makes of the answer
-abbrev judged_answer : Judgement → model.Answer → model.Answer
-judged_answer (J.Refused number place) a = turned_back number place
-judged_answer J.Accepted a = a
 
 refused_first : (rows : List Row) (number place : ℕ) (a : model.Answer) → judge rows (accepted (header []) []) ≡ refused number place → first_failing rows a ≡ turned_back number place
 unfolding judge first_failing
@@ -83,23 +77,27 @@ module _ (v : ℕ) (ls : List ℕ) (k first : ℕ) (out : List ℕ) where
   unfolding after
   after_written e = rw (e, after)
 
-  pub writes_refused : (j : Judgement) (number place : ℕ) → j ≡ J.Refused number place → Judged j rows → Writes v ls k first out (Refused number place) out
-  writes_refused j number place e h =
-      let g : Judged (J.Refused number place) rows = subst (λ (x : Judgement). Judged x rows) e h in
-      let q = after_refused number place (refused_first rows number place (ran (length written)) (sym (g.same (accepted (header []) [])))) in
+  pub writes_refused : {A : Type 0} (e : Refusal) → Judged {A = A} (Err e) rows → Writes v ls k first out (Err e) out
+  writes_refused e h =
+      let q = after_refused (number e.rule) e.place (refused_first rows (number e.rule) e.place (ran (length written)) (sym (h.same (accepted (header []) [])))) in
       record {
         answer = sym (ap (λ (x : After). x.answer) q);
         cells = sym (ap (λ (x : After). x.out) q);
-        says = λ n f. absurd (refuses number place n f);
-        reads = λ n f. absurd (refuses number place n f);
+        says = λ n f. absurd (refuses (number e.rule) e.place n f);
+        reads = λ n f. absurd (refuses (number e.rule) e.place n f);
       }
     where
       refuses : (number place n : ℕ) → ◌≡◌ {A = model.Answer} (turned_back number place) (ran n) → ⊥
       refuses number place n f = let z : ◌≡◌ {A = ℕ} 0 1 = cc in omega (arith, z)
 
-  module _ (j : Judgement) (e : j ≡ J.Accepted) (h : Judged j rows) where
+  -- the refusal that a `?` hands on
+  pub writes_raised : {A : Type 0} {e : Refusal} (r : Result ℕ Refusal) → IsErrAnd r (λ x. x ≡ e) → Judged {A = A} (Err e) rows → Writes v ls k first out r out
+  writes_raised (Err x) p h = rw p (writes_refused _ h)
+  writes_raised (Ok n) p h = absurd p
+
+  module _ {A : Type 0} {t : A} (h : Judged (Ok t) rows) where
     all_hold : Hold rows
-    all_hold = accepted_hold rows e h
+    all_hold = accepted_hold rows h
 
     pub accepted_fit : Fit v ls k first
     accepted_fit = fit_of v ls k first (length out) all_hold
@@ -111,7 +109,7 @@ module _ (v : ℕ) (ls : List ℕ) (k first : ℕ) (out : List ℕ) where
           fits = omega (arith, room_of v ls k first (length out) all_hold);
         }
 
-    pub writes_written : (n : ℕ) (out' : List ℕ) → Wrote out 0 (at_most k first ls) out' n → Writes v ls k first out (Written n) out'
+    pub writes_written : (n : ℕ) (out' : List ℕ) → Wrote out 0 (at_most k first ls) out' n → Writes v ls k first out (Ok n) out'
     writes_written n out' w =
         let f = wrote_front w (room_of v ls k first (length out) all_hold) in
         let q = after_written (hold_first rows (ran (length written)) all_hold) in

@@ -1,6 +1,8 @@
 -- The judgement of a call by the facts that the code tests, and the turns of its loops.
-use Rattle.std.specs.Prelude.{ℕ, ◌+◌, ◌-◌, ◌*◌, ◌≤◌, ◌<◌, ◌≡◌, refl, Bool, ◌&&◌, ◌||◌, List, ◌∷◌, ◌++◌, length, get_or, drop, leb}
-use Rattle.std.proofs.Common.{arith, mul-le-mul_left, mul-le-mul_right, le_trans, add-one, ◌∙◌, drop_of_length-le, drop-cons}
+use Rattle.std.specs.Prelude.{ℕ, ◌+◌, ◌-◌, ◌*◌, ◌/◌, ◌≤◌, ◌<◌, ◌≡◌, refl, Bool, ◌&&◌, ◌||◌, List, [], ◌∷◌, ◌++◌, length, get_or, take, drop, leb, nat_lt, nat_eq}
+use Rattle.std.specs.List.{list_all, list_any}
+use Rattle.std.proofs.Math.Decide.{dec_lt}
+use Rattle.std.proofs.Common.{arith, mul-le-mul_left, mul-le-mul_right, le_trans, ◌∙◌, ap₂, take_all}
 use Rattle.std.proofs.Math.Path.{ap, sym}
 use Rattle.std.proofs.Math.Bool.{true, false}
 use Rattle.std.proofs.Math.Dec.{eqb}
@@ -8,8 +10,7 @@ use borrow.Author.Tests.{lt-ltb, le-ltb, le-leb, lt-leb, leb-true, eq-eqb, ne_eq
 use Rattle.model.specs.Lit.{var}
 use Rattle.model.specs.Book.{all, any, in_range_of}
 use Rattle.lawbase.specs.Basics.{split, less?}
-use Rattle.script.specs.declared.Judgement.TheVariants.{Refused, Accepted}
-use Rattle.script.specs.Judging.{Judged, Hold, done, pass, stop_at}
+use Rattle.script.specs.Judging.{Hold}
 use Rattle.script.specs.Sound.{and_right}
 use Rattle.counter.specs.Counter.{at_most, helpers, cells, max_count, max_helpers, needed, len_of, named, distinct, apart, helpers_fit, at_most_rows}
 use Rattle.counter.specs.Rows.{call_rows, name_rows, room_rows}
@@ -26,15 +27,8 @@ rows_parts v ls k first room = refl
 pub few_of : (v : ℕ) (ls : List ℕ) → Hold (call_rows v ls) → length ls ≤ max_count
 few_of v ls h = leb-true (length ls) max_count (and_right (leb 1 (length ls)) (leb (length ls) max_count) h.1.0)
 
-module _ (ls : List ℕ) (k first room need : ℕ) (few : length ls ≤ max_count) (e : need ≡ len_of (length ls) k) where
-  as_written : need ≡ length (cells (at_most k first ls))
-  as_written = e ∙ sym (len_is k first ls few)
-
-  pub room_short : room < need → Judged (Refused 20 need) (room_rows ls k first room)
-  room_short h = stop_at as_written (lt-leb (length (cells (at_most k first ls))) room (omega (arith, as_written, h)))
-
-  pub room_enough : need ≤ room → Judged Accepted (room_rows ls k first room)
-  room_enough h = pass (le-leb (length (cells (at_most k first ls))) room (omega (arith, as_written, h))) done
+pub room_is : (ls : List ℕ) (k first need : ℕ) → length ls ≤ max_count → need ≡ len_of (length ls) k → need ≡ length (cells (at_most k first ls))
+room_is ls k first need few e = e ∙ sym (len_is k first ls few)
 
 -- ---- how many helpers and cells
 
@@ -48,9 +42,6 @@ pub helpers_small : (k n : ℕ) → n ≤ max_count → helpers k n ≤ max_help
 helpers_small k n g = split (less? k n)
     (λ h. omega (arith, helpers_some k n h, product_small k n h g))
     (λ h. omega (arith, helpers_none k n h))
-
-pub rows_small : (k n : ℕ) → k < n → n ≤ max_count → (n - 2) * (9 * k + 3) ≤ 65536
-rows_small k n h g = small_product (n - 2) (9 * k + 3) max_count 1024 (omega arith) (omega arith)
 
 module _ (n k : ℕ) where
   pub len_many : max_count < n → 0 ≡ len_of n k
@@ -69,66 +60,57 @@ module _ (n k : ℕ) where
   unfolding len_of needed
   len_some h e l = sym (rw (le-leb n max_count h, ne_eqb k 0 e, lt-ltb k n l, len_of, needed))
 
--- ---- turns of the loops
+-- ---- tests of all literals
 
-module _ (p : ℕ → Bool) (ls : List ℕ) (i : ℕ) where
-  here_next : i < length ls → drop i ls ≡ get_or ls i 0 ∷ drop (i + 1) ls
-  here_next h = drop-cons ls i 0 h ∙ ap (λ (n : ℕ). get_or ls i 0 ∷ drop n ls) (sym (add-one i))
+-- the definition's `all` and `any` are the library's
+all_is : (p q : ℕ → Bool) → ((l : ℕ) → p l ≡ q l) → (ls : List ℕ) → list_all p ls ≡ all q ls
+unfolding all
+all_is p q e [] = refl
+all_is p q e (l ∷ ls) = ap₂ (λ (a b : Bool). a && b) (e l) (all_is p q e ls)
 
-  pub all_here : i < length ls → p (get_or ls i 0) ≡ true → all p (drop i ls) ≡ all p (drop (i + 1) ls)
-  unfolding all
-  all_here h e = ap (all p) (here_next h) ∙ ap (λ (b : Bool). b && all p (drop (i + 1) ls)) e
+any_is : (p : ℕ → Bool) (ls : List ℕ) → list_any p ls ≡ any p ls
+unfolding any
+any_is p [] = refl
+any_is p (l ∷ ls) = ap (λ (b : Bool). p l || b) (any_is p ls)
 
-  pub all_fails : i < length ls → p (get_or ls i 0) ≡ false → all p (drop i ls) ≡ false
-  unfolding all
-  all_fails h e = ap (all p) (here_next h) ∙ ap (λ (b : Bool). b && all p (drop (i + 1) ls)) e
+pub in_range_is : (v : ℕ) (ls : List ℕ) → list_all (λ l. nat_lt (l / 2) v) ls ≡ all (in_range_of v) ls
+unfolding in_range_of
+in_range_is v ls = all_is (λ l. nat_lt (l / 2) v) (in_range_of v) (λ l. go l (dec_lt (l / 2) v)) ls
+  where
+    go : (l : ℕ) → Dec (l / 2 < v) → nat_lt (l / 2) v ≡ in_range_of v l
+    go l (yes h) = lt-ltb (l / 2) v h ∙ sym (lt-ltb l (2 * v) (omega arith))
+    go l (no h) = le-ltb (l / 2) v (omega arith) ∙ sym (le-ltb l (2 * v) (omega arith))
 
-  pub all_end : length ls ≤ i → all p (drop i ls) ≡ true
-  unfolding all
-  all_end h = ap (all p) (drop_of_length-le ls h)
+pub apart_is : (first used : ℕ) (ls : List ℕ) → list_all (apart first used) ls ≡ all (apart first used) ls
+apart_is first used ls = all_is (apart first used) (apart first used) (λ l. refl) ls
 
-  pub any_not_here : i < length ls → p (get_or ls i 0) ≡ false → any p (drop i ls) ≡ any p (drop (i + 1) ls)
-  unfolding any
-  any_not_here h e = ap (any p) (here_next h) ∙ ap (λ (b : Bool). b || any p (drop (i + 1) ls)) e
+pub named_is : (l : ℕ) (ls : List ℕ) → list_any (λ m. nat_eq (m / 2) (l / 2)) ls ≡ named l ls
+unfolding named
+named_is l ls = any_is (λ m. nat_eq (m / 2) (l / 2)) ls
 
-  pub any_here : i < length ls → p (get_or ls i 0) ≡ true → any p (drop i ls) ≡ true
-  unfolding any
-  any_here h e = ap (any p) (here_next h) ∙ ap (λ (b : Bool). b || any p (drop (i + 1) ls)) e
+-- a first literal, and the n others
+pub distinct_here : (ls : List ℕ) (n : ℕ) → 1 ≤ length ls → n ≡ length ls - 1 → named (get_or ls 0 0) (take n (drop 1 ls)) ≡ false → distinct ls ≡ distinct (take n (drop 1 ls))
+unfolding distinct
+distinct_here [] n h e f = absurd (omega arith)
+distinct_here (l ∷ ls) n h e f =
+    let all : take n ls ≡ ls = take_all n ls (omega arith) in
+    let g : named l ls ≡ false = rw all at f in
+    rw all (rw (g, distinct))
 
-  pub any_end : length ls ≤ i → any p (drop i ls) ≡ false
-  unfolding any
-  any_end h = ap (any p) (drop_of_length-le ls h)
+pub distinct_fails : (ls : List ℕ) (n : ℕ) → 1 ≤ length ls → n ≡ length ls - 1 → named (get_or ls 0 0) (take n (drop 1 ls)) ≡ true → distinct ls ≡ false
+unfolding distinct
+distinct_fails [] n h e f = absurd (omega arith)
+distinct_fails (l ∷ ls) n h e f =
+    let all : take n ls ≡ ls = take_all n ls (omega arith) in
+    let g : named l ls ≡ true = rw all at f in
+    rw (g, distinct)
 
-module _ (ls : List ℕ) (i : ℕ) where
-  next_of : i < length ls → drop i ls ≡ get_or ls i 0 ∷ drop (i + 1) ls
-  next_of h = drop-cons ls i 0 h ∙ ap (λ (n : ℕ). get_or ls i 0 ∷ drop n ls) (sym (add-one i))
-
-  pub distinct_here : i < length ls → named (get_or ls i 0) (drop (i + 1) ls) ≡ false → distinct (drop i ls) ≡ distinct (drop (i + 1) ls)
-  unfolding distinct
-  distinct_here h e = ap distinct (next_of h) ∙ ap (λ (b : Bool). elim b as (λ _. Bool) [ true ↦ false | false ↦ distinct (drop (i + 1) ls) ]) e
-
-  pub distinct_fails : i < length ls → named (get_or ls i 0) (drop (i + 1) ls) ≡ true → distinct (drop i ls) ≡ false
-  unfolding distinct
-  distinct_fails h e = ap distinct (next_of h) ∙ ap (λ (b : Bool). elim b as (λ _. Bool) [ true ↦ false | false ↦ distinct (drop (i + 1) ls) ]) e
-
-  pub distinct_end : length ls ≤ i → distinct (drop i ls) ≡ true
-  unfolding distinct
-  distinct_end h = ap distinct (drop_of_length-le ls h)
+pub distinct_none : (ls : List ℕ) → length ls < 1 → distinct ls ≡ true
+unfolding distinct
+distinct_none [] h = refl
+distinct_none (l ∷ ls) h = absurd (omega arith)
 
 -- ---- tests
-
-module _ (l : ℕ) (ls : List ℕ) (j : ℕ) where
-  pub named-hit : j < length ls → var (get_or ls j 0) ≡ var l → named l (drop j ls) ≡ true
-  unfolding named
-  named-hit h e = any_here (λ m. eqb (var m) (var l)) ls j h (eq-eqb (var (get_or ls j 0)) (var l) e)
-
-  pub named_miss : j < length ls → (var (get_or ls j 0) ≡ var l → ⊥) → named l (drop j ls) ≡ named l (drop (j + 1) ls)
-  unfolding named
-  named_miss h e = any_not_here (λ m. eqb (var m) (var l)) ls j h (ne_eqb (var (get_or ls j 0)) (var l) e)
-
-  pub named_end : length ls ≤ j → named l (drop j ls) ≡ false
-  unfolding named
-  named_end h = any_end (λ m. eqb (var m) (var l)) ls j h
 
 module _ (first used l : ℕ) where
   pub apart_before : var l < first → true ≡ apart first used l
@@ -147,11 +129,3 @@ module _ (v first used : ℕ) where
   pub fit_used : (used ≡ 0 → ⊥) → leb (first + used) v ≡ helpers_fit v first used
   unfolding helpers_fit
   fit_used h = sym (rw (ne_eqb used 0 h))
-
-pub in_range_test : (v l : ℕ) → l < 2 * v → in_range_of v l ≡ true
-unfolding in_range_of
-in_range_test v l h = lt-ltb l (2 * v) h
-
-pub out_of_range_test : (v l : ℕ) → 2 * v ≤ l → in_range_of v l ≡ false
-unfolding in_range_of
-out_of_range_test v l h = le-ltb l (2 * v) h

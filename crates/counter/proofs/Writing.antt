@@ -41,23 +41,25 @@ pub negations_end : (ls : List ℕ) (i : ℕ) → length ls ≤ i → negations 
 unfolding negations
 negations_end ls i h = ap negations (drop_of_length-le ls h)
 
-less_one : (k j : ℕ) → j + 1 < k → k - 1 - j ≡ suc (k - 1 - (j + 1))
-less_one k j h = omega arith
+-- columns from j on, from 1, of k
+one_less : (k j : ℕ) → j < k → k - j ≡ suc (k - (j + 1))
+one_less k j h = omega arith
 
-less_none : (k j : ℕ) → k ≤ j + 1 → k - 1 - j ≡ 0
-less_none k j h = omega arith
+none_less : (k j : ℕ) → k ≤ j → k - j ≡ 0
+none_less k j h = omega arith
 
--- before the first turn
-pub none_less : (k : ℕ) → k - 1 ≡ k - 1 - 0
-none_less k = omega arith
-
-pub zeros_next : (base k j : ℕ) → j + 1 < k → zeros base j (k - 1 - j) ≡ (neg (helper base (j + 1)) ∷ []) ∷ zeros base (j + 1) (k - 1 - (j + 1))
+pub zeros_next : (base k j : ℕ) → 1 ≤ j → j < k → zeros base (j - 1) (k - j) ≡ (neg (helper base j) ∷ []) ∷ zeros base (j + 1 - 1) (k - (j + 1))
 unfolding zeros
-zeros_next base k j h = ap (zeros base j) (less_one k j h) ∙ ap (λ (i : ℕ). (neg (helper base i) ∷ []) ∷ zeros base i (k - 1 - (j + 1))) (sym (add-one j))
+zeros_next base k j p h =
+    let e : suc (j - 1) ≡ j = omega arith in
+    let f : suc (j - 1) ≡ j + 1 - 1 = omega arith in
+    ap (zeros base (j - 1)) (one_less k j h)
+    ∙ ap (λ (i : ℕ). (neg (helper base i) ∷ []) ∷ zeros base (suc (j - 1)) (k - (j + 1))) e
+    ∙ ap (λ (i : ℕ). (neg (helper base j) ∷ []) ∷ zeros base i (k - (j + 1))) f
 
-pub zeros_end : (base k j : ℕ) → k ≤ j + 1 → zeros base j (k - 1 - j) ≡ []
+pub zeros_end : (base k j : ℕ) → k ≤ j → zeros base (j - 1) (k - j) ≡ []
 unfolding zeros
-zeros_end base k j h = ap (zeros base j) (less_none k j h)
+zeros_end base k j h = ap (zeros base (j - 1)) (none_less k j h)
 
 pub pair_room : (at n x base next j : ℕ) → Fits at (pair x base next j) n → at + 9 ≤ n
 pair_room at n x base next j h =
@@ -65,31 +67,37 @@ pair_room at n x base next j h =
     let d = neg (helper base (j + 1)) ∷ helper next (j + 1) ∷ [] in
     omega (arith, h, length-cells (c ∷ []) (d ∷ []), ap length (cells_one c), ap length (cells_one d))
 
-pub columns_next : (x base next k j : ℕ) → j + 1 < k → columns x base next j (k - 1 - j) ≡ pair x base next j ++ columns x base next (j + 1) (k - 1 - (j + 1))
+pub columns_next : (x base next k j : ℕ) → 1 ≤ j → j < k
+    → columns x base next (j - 1) (k - j) ≡ pair x base next (j - 1) ++ columns x base next (j + 1 - 1) (k - (j + 1))
 unfolding columns
-columns_next x base next k j h =
-    ap (columns x base next j) (less_one k j h)
-    ∙ ap
-    (λ (i : ℕ).
-    (neg x ∷ neg (helper base j) ∷ helper next i ∷ []) ∷ (neg (helper base i) ∷ helper next i ∷ []) ∷ columns x base next i (k - 1 - (j + 1)))
-    (sym (add-one j))
+columns_next x base next k j p h =
+    let e : suc (j - 1) ≡ j - 1 + 1 = omega arith in
+    let f : suc (j - 1) ≡ j + 1 - 1 = omega arith in
+    ap (columns x base next (j - 1)) (one_less k j h)
+    ∙ ap (λ (i : ℕ). (neg x ∷ neg (helper base (j - 1)) ∷ helper next i ∷ []) ∷ (neg (helper base i) ∷ helper next i ∷ []) ∷ columns x base next (suc (j - 1)) (k - (j + 1))) e
+    ∙ ap (λ (i : ℕ). pair x base next (j - 1) ++ columns x base next i (k - (j + 1))) f
 
-pub columns_end : (x base next k j : ℕ) → k ≤ j + 1 → columns x base next j (k - 1 - j) ≡ []
+pub columns_end : (x base next k j : ℕ) → k ≤ j → columns x base next (j - 1) (k - j) ≡ []
 unfolding columns
-columns_end x base next k j h = ap (columns x base next j) (less_none k j h)
+columns_end x base next k j h = ap (columns x base next (j - 1)) (none_less k j h)
 
-pub rows_next : (k base : ℕ) (ls : List ℕ) (i : ℕ) → i + 1 < length ls → rows k base (drop i ls) ≡ next_row k (get_or ls i 0) base ++ rows k (base + k) (drop (i + 1) ls)
+-- x is the literal at i
+pub rows_next : (k base : ℕ) (ls : List ℕ) (i x : ℕ) → i + 1 < length ls → x ≡ get_or ls i 0
+    → rows k base (drop i ls) ≡ next_row k x base ++ rows k (base + k) (drop (i + 1) ls)
 unfolding rows
-rows_next k base ls i h =
+rows_next k base ls i x h e =
     let a : drop i ls ≡ get_or ls i 0 ∷ drop (i + 1) ls = drop-cons ls i 0 (omega arith) ∙ ap (λ (n : ℕ). get_or ls i 0 ∷ drop n ls) (sym (add-one i)) in
     let b : drop (i + 1) ls ≡ get_or ls (i + 1) 0 ∷ drop (suc (i + 1)) ls = drop-cons ls (i + 1) 0 h in
-    ap (rows k base) (a ∙ ap (λ (r : List ℕ). get_or ls i 0 ∷ r) b) ∙ ap (λ (r : List ℕ). next_row k (get_or ls i 0) base ++ rows k (base + k) r) (sym b)
+    ap (rows k base) (a ∙ ap (λ (r : List ℕ). get_or ls i 0 ∷ r) b)
+    ∙ ap (λ (r : List ℕ). next_row k (get_or ls i 0) base ++ rows k (base + k) r) (sym b)
+    ∙ ap (λ (l : ℕ). next_row k l base ++ rows k (base + k) (drop (i + 1) ls)) (sym e)
 
-pub rows_last : (k base : ℕ) (ls : List ℕ) (i : ℕ) → i + 1 ≡ length ls → rows k base (drop i ls) ≡ stop k (get_or ls i 0) base ∷ []
+pub rows_last : (k base : ℕ) (ls : List ℕ) (i last : ℕ) → i + 1 ≡ length ls → last ≡ i → rows k base (drop i ls) ≡ stop k (get_or ls last 0) base ∷ []
 unfolding rows
-rows_last k base ls i h =
-    let e : suc i ≡ length ls = omega arith in
+rows_last k base ls i last h e =
+    let f : suc i ≡ length ls = omega arith in
     ap (rows k base) (drop-cons ls i 0 (omega arith) ∙ ap (λ (r : List ℕ). get_or ls i 0 ∷ r) (drop_of_length-le ls {i = suc i} (omega arith)))
+    ∙ ap (λ (j : ℕ). stop k (get_or ls j 0) base ∷ []) (sym e)
 
 -- rows that are left, each of k helpers
 pub one_row : (m k : ℕ) → 1 ≤ m → m * k ≡ (m - 1) * k + k
@@ -117,24 +125,10 @@ pub row_parts : (k x base : ℕ)
 unfolding next_row
 row_parts k x base = refl
 
-pub stop_is : (k x base : ℕ) → stop k x base ≡ neg x ∷ neg (helper base (k - 1)) ∷ []
-unfolding stop
-stop_is k x base = refl
-
--- a row's parts, one after the other: what is left before each call of the code
+-- what is to be written of a row, clause by clause
 module _ (k x base : ℕ) (out : List ℕ) (at : ℕ) (fits : Fits at (next_row k x base) (length out)) where
   pub row_start : Left out at (next_row k x base) out at ((neg x ∷ helper (base + k) 0 ∷ []) ∷ (neg (helper base 0) ∷ helper (base + k) 0 ∷ []) ∷ row_tail k x base)
   row_start = left_as (left_all out at (next_row k x base) fits) (row_parts k x base)
-
-  pub row_first : {out' : List ℕ} {to h : ℕ} → h ≡ helper (base + k) 0 → Wrote out at ((neg x ∷ h ∷ []) ∷ []) out' to
-      → Left out at (next_row k x base) out' to ((neg (helper base 0) ∷ helper (base + k) 0 ∷ []) ∷ row_tail k x base)
-  row_first {out'} {to} {h} e w = left_one row_start (subst (λ (z : ℕ). Wrote out at ((neg x ∷ z ∷ []) ∷ []) out' to) e w)
-
-  pub row_second : {o o' : List ℕ} {t t' g h : ℕ} → Left out at (next_row k x base) o t ((neg (helper base 0) ∷ helper (base + k) 0 ∷ []) ∷ row_tail k x base) → g ≡ helper base 0
-      → h ≡ helper (base + k) 0 → Wrote o t ((neg g ∷ h ∷ []) ∷ []) o' t' → Left out at (next_row k x base) o' t' (row_tail k x base)
-  row_second {o} {o'} {t} {t'} {g} {h} l d e w =
-      left_one l
-      (subst (λ (z : ℕ). Wrote o t ((neg (helper base 0) ∷ z ∷ []) ∷ []) o' t') e (subst (λ (z : ℕ). Wrote o t ((neg z ∷ h ∷ []) ∷ []) o' t') d w))
 
 -- ---- how many cells
 

@@ -67,7 +67,7 @@ cells_one c = ap (λ (xs : List ℕ). clause_kind ∷ length c ∷ xs) (mathlib.
 
 -- the code's stores: the kind, the count, and the literals pasted behind them
 pub one_record : (out : List ℕ) (at : ℕ) (c : List ℕ) → at + 2 + length c ≤ length out
-    → Wrote out at (c ∷ []) (paste (set (set out at clause_kind) (at + 1) (length c)) (at + 2) c (length c)) (at + 2 + length c)
+    → Wrote out at (c ∷ []) (paste (set (set out at clause_kind) (at + 1) (length c)) (at + 2) c (length c)) (at + (2 + length c))
 one_record out at c h =
     let headed : List ℕ = set (set out at clause_kind) (at + 1) (length c) in
     let n : length headed ≡ length out = simp lib.ListN.length-set in

@@ -1,74 +1,63 @@
 // 'At most k of these n literals' by Sinz's sequential counter: the clauses written as records of kind 1 into a lent slice.
 #![tactic(auto)]
 
-ghost use Rattle.std.specs.Prelude.{◌≡◌, length};
+ghost use Rattle.std.specs.Prelude.{◌≡◌, ◌+◌, ◌*◌, ◌-◌, ◌≤◌, ◌<◌, length};
 ghost use Rattle.counter.specs.Counter.{at_most, len_of};
-ghost use Rattle.counter.specs.Wrote.{Wrote};
-ghost use Rattle.counter.specs.Answers.{Writable, Writes};
+ghost use Rattle.model.specs.Limits.{max_variables};
+ghost use Rattle.counter.specs.Wrote.{Wrote, Fits};
+ghost use Rattle.counter.specs.Answers.{Writes};
 
 mod clauses;
 mod judge;
 
-use script::Judgement;
+use clauses::Writer;
+use refusal::Refusal;
 
 // The literals of a call are 1 to this.
-const MAX_COUNT: u32 = 64;
-
-// What a call comes to: the cells written, or a refusal's number and place.
-#[derive(Clone, Copy)]
-pub enum Answer {
-    Refused { number: u32, place: u64 },
-    Written { cells: u64 },
-}
-
-fn wide(x: u32) -> u64
-    ensures { result ≡ x }
-{
-    x as u64
-}
+const MAX_COUNT: usize = 64;
 
 // How many cells are written, of n literals; 0 for more literals than a call may have.
 pub fn len(n: u32, k: u32) -> u64
     ensures { result ≡ len_of n k }
 {
-    if MAX_COUNT < n {
+    if MAX_COUNT < n as usize {
         return 0;
     }
     if k == 0 {
-        return 3 * wide(n);
+        return 3 * u64::from(n);
     }
     if n <= k {
         return 0;
     }
-    8 + 3 * (wide(k) - 1) + (wide(n) - 2) * (9 * wide(k) + 3)
+    8 + 3 * (u64::from(k) - 1) + (u64::from(n) - 2) * (9 * u64::from(k) + 3)
 }
 
 // The clauses that say that at most k of the literals are true.
-fn write(literals: &[u32], k: u32, first: u32, out: &mut [u32]) -> usize
-    requires { Writable literals.now k first (length out.old) }
-    ensures { Wrote out.old 0 (at_most k first literals.now) out.new result }
+fn write(w: &mut Writer, literals: &[u32], k: u32, first: u32)
+    requires helpers { 1 ≤ k → k < length literals.now → first + (length literals.now - 1) * k ≤ max_variables }
+    requires fits { Fits w.old.at (at_most k first literals.now) (length w.old.out.now) }
+    ensures same_reference { w.new.out.ghost_name ≡ w.old.out.ghost_name }
+    ensures wrote { Wrote w.old.out.now w.old.at (at_most k first literals.now) w.new.out.now w.new.at }
 {
     if k == 0 {
-        return clauses::negations(literals, out);
+        clauses::negations(w, literals)
+    } else if (k as usize) < literals.len() {
+        clauses::counter(w, literals, first, k)
     }
-    if literals.len() as u64 <= wide(k) {
-        return 0;
-    }
-    clauses::counter(literals, first, k, out)
 }
 
-// Writes the clauses that say that at most k of the literals are true, with helpers from variable first on; or says why the call is turned back.
-pub fn at_most(v: u32, literals: &[u32], k: u32, first: u32, out: &mut [u32]) -> Answer
+// Writes the clauses that say that at most k of the literals are true, with helpers from variable first on, and returns how many cells they take; or says why the call is turned back.
+pub fn at_most(
+    v: u32,
+    literals: &[u32],
+    k: u32,
+    first: u32,
+    out: &mut [u32],
+) -> Result<u64, Refusal>
     ensures { Writes v literals.now k first out.old result out.new }
 {
-    match judge::judge(v, literals, k, first, out.len()) {
-        Judgement::Refused { number, place } => Answer::Refused {
-            number: number,
-            place: place,
-        },
-        Judgement::Accepted => {
-            let n = write(literals, k, first, out);
-            Answer::Written { cells: n as u64 }
-        },
-    }
+    judge::judge(v, literals, k, first, out.len())?;
+    let mut w = Writer { out, at: 0 };
+    write(&mut w, literals, k, first);
+    Ok(w.at as u64)
 }

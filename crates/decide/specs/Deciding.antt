@@ -3,7 +3,7 @@ use Rattle.std.specs.Prelude.{ℕ, suc, ◌+◌, ◌*◌, ◌≤◌, ◌<◌, �
 use native.Mathlib.Omega.{arith}
 use Rattle.std.proofs.Common.{add-one, sym, subst, ◌∙◌, drop_of_length-le, drop-cons, eq-eqb, ne_eqb}
 use Rattle.std.proofs.Math.Path.{refl, ap}
-use Rattle.std.proofs.Math.Option.{Option, none, some}
+use Rattle.std.specs.Prelude.{Option, None as none, Some as some}
 use Rattle.std.proofs.Math.ListN.{length}
 use Rattle.clause.specs.declared.Lit.{Lit}
 use Rattle.model.specs.Lit.{var, neg, no_reason, l_true, l_false, value_lit, is_true, is_false}

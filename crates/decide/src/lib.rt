@@ -20,7 +20,6 @@ ghost use Rattle.decide.specs.Blaming.{vars_of, Passable, Passed, Blamable, Blam
 ghost use Rattle.decide.specs.Final.{Explained};
 ghost use Rattle.decide.specs.Deciding.{branch_of, taken_up, Decides};
 
-use activity::Choice;
 use clause::{FALSE, Lit, NO_REASON, TRUE, wide};
 use state::{Config, Header, Sizes};
 
@@ -174,7 +173,7 @@ fn pick_branch_lit<'a>(g: Config, h: Header, work: &'a [u32], act: &'a [f64]) ->
 {
     let d = g.sizes;
     let c = activity::pick(state::assignment::values(d, h, work), act);
-    let Choice::Of(v) = c else {
+    let Some(v) = c else {
         return Branch::Nothing;
     };
     let sign = state::assignment::phase(d, h, work, v);

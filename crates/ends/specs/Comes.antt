@@ -1,6 +1,6 @@
 -- What a turn of `search` comes to: the cases, each with what it changes.
 use Rattle.std.specs.Prelude.{◌≡◌, ◌⊎◌, List, [], ℕ, suc, ◌≤◌, ◌<◌, length}
-use Rattle.std.proofs.Math.Option.{none, some}
+use Rattle.std.specs.Prelude.{None as none, Some as some}
 use Rattle.model.specs.Script.{Config}
 use Rattle.model.specs.State.{State, Solver, decision_level, with_state, with_activity}
 use Rattle.model.specs.Trail.{cancel_until}

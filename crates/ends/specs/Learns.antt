@@ -1,7 +1,7 @@
 -- Rule 5 after a conflict: a clause is stored or a unit put at level 0, a level at least is left; or there is no room.
 use Rattle.std.specs.Prelude.{ℕ, suc, ◌≤◌, ◌<◌, length}
 use mathlib.Core.List.{List}
-use Rattle.std.proofs.Math.Option.{Option, none, some}
+use Rattle.std.specs.Prelude.{Option, None as none, Some as some}
 use Rattle.model.specs.Script.{Config}
 use Rattle.model.specs.State.{Store, State, decision_level}
 use Rattle.watching.specs.Store.{Room}

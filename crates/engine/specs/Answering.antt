@@ -1,6 +1,6 @@
 -- A run and a refusal, each with what it promises.
-use Rattle.std.specs.Prelude.{ℕ, ◌≤◌, ◌≡◌, refl, List, [], ◌∷◌, ◌++◌, length, take, drop, replicate, Float}
-use Rattle.std.proofs.Common.{arith, sym, ap, ◌∙◌, subst}
+use Rattle.std.specs.Prelude.{ℕ, zero, suc, ◌≤◌, ◌≡◌, ◌==◌, true, false, refl, List, [], ◌∷◌, ◌++◌, length, take, drop, replicate, Float, Result, Ok, Err, IsErrAnd}
+use Rattle.std.proofs.Common.{arith, sym, ap, ◌∙◌, subst, eqb-true}
 use Rattle.std.proofs.Math.Seq.{take-append_seam}
 use Rattle.model.specs.Script as Script
 use Rattle.model.specs.Script.{Record, Reading, refused, accepted, header, records_of, work_needed, read}
@@ -8,13 +8,10 @@ use Rattle.model.specs.State.{f64_zero}
 use Rattle.model.specs.Run as model
 use Rattle.model.specs.Run.{after, After, after_run, untouched, run}
 use Rattle.model.specs.Book.{Demand3}
-use Rattle.script.specs.declared.Judgement.TheVariants as J
-use Rattle.script.specs.declared.Judgement.{Judgement}
-use Rattle.script.specs.Judging.{reading_of}
-use Rattle.script.specs.Accepted.{Accepted, judged_refused, accepted_read}
+use Rattle.script.specs.Accepted.{Accepted, accepted_read}
 use Rattle.laws.proofs.Theorems.{demand_3, demand_3_of_none}
-use Rattle.engine.specs.declared.Answer as Answer
-use Rattle.engine.specs.declared.Answer.{Answer}
+use Rattle.refusal.specs.declared.Refusal.{Refusal}
+use Rattle.refusal.specs.Number.{number}
 use Rattle.records.specs.Recording.{Written}
 use Rattle.engine.specs.Numbers.{refused_numbered}
 use Rattle.engine.specs.Runs.{answer_of, number_of, value_of, Runs, Gives}
@@ -48,11 +45,15 @@ unfolding after
 after_accepted [] w acts o some e = absurd (omega (arith, some))
 after_accepted (c ∷ s) w acts o some e = rw (e, after)
 
-pub some_cells : (n : ℕ) → (n ≡ 0 → ⊥) → 1 ≤ n
-some_cells n h = omega (arith, h)
+pub no_cells : (n : ℕ) → true ≡ (n == 0) → n ≡ 0
+no_cells n e = eqb-true n 0 (sym e)
+
+pub some_cells : (n : ℕ) → false ≡ (n == 0) → 1 ≤ n
+some_cells zero e = let z : false ≡ true = e in cc
+some_cells (suc n) e = omega arith
 
 -- a script of no cells
-pub runs_none : (s w : List ℕ) (acts : List Float) (o : List ℕ) → length s ≡ 0 → Runs s w acts o (Answer.Ran 0) w acts o
+pub runs_none : (s w : List ℕ) (acts : List Float) (o : List ℕ) → length s ≡ 0 → Runs s w acts o (Ok 0) w acts o
 unfolding after
 runs_none [] w acts o z =
     record {
@@ -74,17 +75,22 @@ module _ (s w : List ℕ) (acts : List Float) (o : List ℕ) where
       (λ n p e f. let q : n ≡ number = ap number_of f in omega (arith, q, refused_numbered s (length w) (length acts) (length o) n p e))
       (λ cfg rs e f. absurd (refuses (length (run cfg rs)) number place (sym f)))
 
-  pub runs_refused : 1 ≤ length s → (j : Judgement) (number place : ℕ) → j ≡ J.Refused number place → reading_of s j ≡ read s (length w) (length acts) (length o)
-      → Runs s w acts o (Answer.Refused number place) w acts o
-  runs_refused some j number place e h =
-      let q = after_refused s w acts o some number place (judged_refused s (length w) (length acts) (length o) j number place e h) in
+  runs_refused : 1 ≤ length s → (e : Refusal) → refused (number e.rule) e.place ≡ read s (length w) (length acts) (length o) → Runs s w acts o (Err e) w acts o
+  runs_refused some e h =
+      let q = after_refused s w acts o some (number e.rule) e.place (sym h) in
       record {
         answer = sym (ap (λ (x : After). x.answer) q);
         work = sym (ap (λ (x : After). x.work) q);
         activities = sym (ap (λ (x : After). x.activities) q);
         out = sym (ap (λ (x : After). x.out) q);
-        demand = λ cells f. absurd (refuses cells number place f);
+        demand = λ cells f. absurd (refuses cells (number e.rule) e.place f);
       }
+
+  -- the refusal that a `?` hands on
+  pub runs_raised : 1 ≤ length s → (e : Refusal) (r : Result ℕ Refusal) → IsErrAnd r (λ x. x ≡ e)
+      → refused (number e.rule) e.place ≡ read s (length w) (length acts) (length o) → Runs s w acts o r w acts o
+  runs_raised some e (Err x) p h = rw p (runs_refused some e h)
+  runs_raised some e (Ok n) p h = absurd p
 
   module _ (a : Accepted s (length w) (length acts) (length o)) (n : ℕ) (w' : List ℕ) (acts' : List Float) (o' : List ℕ) (k : Written s o n o')
       (ew : w' ≡ replicate (work_needed (header s)) 0 ++ drop (work_needed (header s)) w)
@@ -94,7 +100,7 @@ module _ (s w : List ℕ) (acts : List Float) (o : List ℕ) where
         ap (take n) k.cells ∙ ap (λ (m : ℕ). take m (run (header s) (records_of s) ++ drop (length (run (header s) (records_of s))) o)) k.count
         ∙ take-append_seam (run (header s) (records_of s)) (drop (length (run (header s) (records_of s))) o)
 
-    pub runs_accepted : Runs s w acts o (Answer.Ran n) w' acts' o'
+    pub runs_accepted : Runs s w acts o (Ok n) w' acts' o'
     runs_accepted =
         let q = after_accepted s w acts o (omega (arith, a.header_fits.cells)) (accepted_read s (length w) (length acts) (length o) a) in
         record {
@@ -108,27 +114,18 @@ module _ (s w : List ℕ) (acts : List Float) (o : List ℕ) where
         }
 
   -- the answer as a number and a value
-  module _ (r : Answer) (w' : List ℕ) (acts' : List Float) (o' : List ℕ) (k : Runs s w acts o r w' acts' o') where
-    pub gives_refused : (number place : ℕ) → r ≡ Answer.Refused number place → Gives s w acts o number place w' acts' o'
-    gives_refused number place e =
-        let f : model.turned_back number place ≡ (after s w acts o).answer = sym (ap answer_of e) ∙ k.answer in
-        record {
-          number = ap number_of f;
-          value = ap value_of f;
-          work = k.work;
-          activities = k.activities;
-          out = k.out;
-          demand = λ z. absurd (omega (arith, z, refusal_numbered number place (sym f)));
-        }
-
-    pub gives_ran : (cells : ℕ) → r ≡ Answer.Ran cells → Gives s w acts o 0 cells w' acts' o'
-    gives_ran cells e =
-        let f : model.ran cells ≡ (after s w acts o).answer = sym (ap answer_of e) ∙ k.answer in
-        record {
-          number = ap number_of f;
-          value = ap value_of f;
-          work = k.work;
-          activities = k.activities;
-          out = k.out;
-          demand = λ z. k.demand cells (ap answer_of e);
-        }
+  pub gives : (r : Result ℕ Refusal) (w' : List ℕ) (acts' : List Float) (o' : List ℕ) → Runs s w acts o r w' acts' o'
+      → (n v : ℕ) → n ≡ number_of (answer_of r) → v ≡ value_of (answer_of r) → Gives s w acts o n v w' acts' o'
+  gives r w' acts' o' k n v p q =
+      record {
+        number = p ∙ ap number_of k.answer;
+        value = q ∙ ap value_of k.answer;
+        work = k.work;
+        activities = k.activities;
+        out = k.out;
+        demand = shown r k p q;
+      }
+    where
+      shown : (r : Result ℕ Refusal) → Runs s w acts o r w' acts' o' → n ≡ number_of (answer_of r) → v ≡ value_of (answer_of r) → n ≡ 0 → Demand3 s (take v o')
+      shown (Ok cells) k p q z = subst (λ (i : ℕ). Demand3 s (take i o')) (sym q) (k.demand cells refl)
+      shown (Err e) k p q z = absurd (omega (arith, z, p, refusal_numbered (number e.rule) e.place (sym k.answer)))

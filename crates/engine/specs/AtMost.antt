@@ -1,15 +1,14 @@
 -- What `engine_at_most` promises: the answer as a number and a value, every cell of the slice, and what the clauses say.
-use Rattle.std.specs.Prelude.{ℕ, ◌≤◌, ◌≡◌, List}
-use Rattle.std.proofs.Common.{arith, sym, ap, ◌∙◌}
-use Rattle.model.specs.Run as model
-use Rattle.counter.specs.declared.Answer.{Answer}
-use Rattle.counter.specs.declared.Answer.TheVariants.{Refused, Written}
+use Rattle.std.specs.Prelude.{ℕ, ◌≡◌, List, Result, Ok, Err}
+use Rattle.std.proofs.Common.{arith, refl, sym, ap, ◌∙◌}
+use Rattle.refusal.specs.declared.Refusal.{Refusal}
+use Rattle.refusal.specs.Number.{number}
 use Rattle.counter.specs.Counter.{at_most, after}
 use Rattle.counter.specs.Theorem.{Exactly}
 use Rattle.counter.specs.Reads.{ReadsBack}
-use Rattle.counter.specs.Answers.{answer_of, Writes}
+use Rattle.counter.specs.Answers.{Writes}
 use Rattle.counter.proofs.Answers.{refusal_numbered}
-use Rattle.engine.specs.Runs.{number_of, value_of}
+use Rattle.engine.specs.Runs.{answer_of, number_of, value_of}
 
 -- A number n and a value x; the slice was out and is out' afterwards. Where n is 0, values of the literals extend to a model of the clauses written if and only
 -- if at most k are true, and the cells read back as these clauses.
@@ -20,25 +19,22 @@ pub record GivesAtMost (v : ℕ) (ls : List ℕ) (k first : ℕ) (out : List ℕ
   pub says : n ≡ 0 → Exactly v ls k first
   pub reads : n ≡ 0 → ReadsBack v (at_most k first ls)
 
-module _ (v : ℕ) (ls : List ℕ) (k first : ℕ) (out : List ℕ) (r : Answer) (out' : List ℕ) (w : Writes v ls k first out r out') where
-  pub refused_gives : (number place : ℕ) → r ≡ Refused number place → GivesAtMost v ls k first out number place out'
-  refused_gives number place e =
-      let f : model.turned_back number place ≡ (after v ls k first out).answer = sym (ap answer_of e) ∙ w.answer in
+module _ (v : ℕ) (ls : List ℕ) (k first : ℕ) (out out' : List ℕ) where
+  pub at_most_gives : (r : Result ℕ Refusal) → Writes v ls k first out r out' → (n x : ℕ) → n ≡ number_of (answer_of r) → x ≡ value_of (answer_of r)
+      → GivesAtMost v ls k first out n x out'
+  at_most_gives r w n x p q =
       record {
-        number = ap number_of f;
-        value = ap value_of f;
+        number = p ∙ ap number_of w.answer;
+        value = q ∙ ap value_of w.answer;
         cells = w.cells;
-        says = λ z. absurd (omega (arith, z, refusal_numbered v ls k first out number place (sym f)));
-        reads = λ z. absurd (omega (arith, z, refusal_numbered v ls k first out number place (sym f)));
+        says = said r w p;
+        reads = read r w p;
       }
+    where
+      said : (r : Result ℕ Refusal) → Writes v ls k first out r out' → n ≡ number_of (answer_of r) → n ≡ 0 → Exactly v ls k first
+      said (Ok m) w p z = w.says m refl
+      said (Err e) w p z = absurd (omega (arith, z, p, refusal_numbered v ls k first out (number e.rule) e.place (sym w.answer)))
 
-  pub written_gives : (n : ℕ) → r ≡ Written n → GivesAtMost v ls k first out 0 n out'
-  written_gives n e =
-      let f : model.ran n ≡ (after v ls k first out).answer = sym (ap answer_of e) ∙ w.answer in
-      record {
-        number = ap number_of f;
-        value = ap value_of f;
-        cells = w.cells;
-        says = λ z. w.says n (ap answer_of e);
-        reads = λ z. w.reads n (ap answer_of e);
-      }
+      read : (r : Result ℕ Refusal) → Writes v ls k first out r out' → n ≡ number_of (answer_of r) → n ≡ 0 → ReadsBack v (at_most k first ls)
+      read (Ok m) w p z = w.reads m refl
+      read (Err e) w p z = absurd (omega (arith, z, p, refusal_numbered v ls k first out (number e.rule) e.place (sym w.answer)))

@@ -1,6 +1,6 @@
 -- A refusal's number is never 0.
 use Rattle.std.specs.Prelude.{ℕ, zero, suc, ◌+◌, ◌≤◌, ◌≡◌, true, false, List, [], ◌∷◌, ◌++◌, length, get_or, take, drop}
-use Rattle.std.proofs.Common.{arith, sym, ap, subst}
+use Rattle.std.proofs.Common.{arith, ap}
 use Rattle.model.specs.Limits.{header_cells}
 use Rattle.model.specs.Script.{Config, Record, Row, row, Reading, refused, accepted, lead, limits, trailing, header, records_of, header_rows, slice_rows, literal_rows, limit_rows, record_rows, out_needed, out_rows, judge, read}
 

@@ -1,15 +1,14 @@
 -- What `run` promises of a script and the slices lent, and `engine_run` of the same.
-use Rattle.std.specs.Prelude.{ℕ, ◌≡◌, List, take, Float}
+use Rattle.std.specs.Prelude.{ℕ, ◌≡◌, List, take, Float, Result}
 use Rattle.model.specs.Run as model
 use Rattle.model.specs.Run.{after}
 use Rattle.model.specs.Book.{Demand3}
-use Rattle.engine.specs.declared.Answer as Answer
-use Rattle.engine.specs.declared.Answer.{Answer}
+use Rattle.refusal.specs.declared.Refusal.{Refusal}
+use Rattle.counter.specs.Answers as counter
 
 -- the definition's answer: document 01's numbers and values
-abbrev pub answer_of : Answer → model.Answer
-answer_of (Answer.Ran cells) = model.ran cells
-answer_of (Answer.Refused number place) = model.turned_back number place
+abbrev pub answer_of : Result ℕ Refusal → model.Answer
+answer_of r = counter.answer_of r
 
 -- how the answer is given beside a number: 0 and the cells written, or the refusal's number and the place
 abbrev pub number_of : model.Answer → ℕ
@@ -22,7 +21,7 @@ value_of (model.ran cells) = cells
 
 -- The answer is r; work, activities and out were w, acts and o, and are w', acts' and o' afterwards. Every cell of them, of a run and of a refusal, is as
 -- document 01 defines; and the cells that a run writes meet demand 3.
-pub record Runs (script w : List ℕ) (acts : List Float) (o : List ℕ) (r : Answer) (w' : List ℕ) (acts' : List Float) (o' : List ℕ) : Type 0 where
+pub record Runs (script w : List ℕ) (acts : List Float) (o : List ℕ) (r : Result ℕ Refusal) (w' : List ℕ) (acts' : List Float) (o' : List ℕ) : Type 0 where
   pub answer : answer_of r ≡ (after script w acts o).answer
   pub work : w' ≡ (after script w acts o).work
   pub activities : acts' ≡ (after script w acts o).activities

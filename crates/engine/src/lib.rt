@@ -5,34 +5,42 @@ ghost use Rattle.std.specs.Prelude.{◌≡◌};
 ghost use Rattle.model.specs.Script.{work_needed};
 ghost use Rattle.script.specs.Needs.{sized, out_len_of};
 ghost use Rattle.counter.specs.Counter.{len_of};
-ghost use Rattle.engine.specs.Runs.{Runs, Gives};
+ghost use Rattle.engine.specs.Runs.{answer_of, number_of, value_of, Runs, Gives};
 ghost use Rattle.engine.specs.AtMost.{GivesAtMost};
 
-use script::Judgement;
+use refusal::Refusal;
+use script::Script;
 
-// What a run comes to: the out cells written, or a refusal's number and place.
-#[derive(Clone, Copy)]
-pub enum Answer {
-    Ran { cells: u64 },
-    Refused { number: u32, place: u64 },
-}
-
-// Runs a script, or says why it is turned back.
-pub fn run(script: &[u32], work: &mut [u32], activities: &mut [f64], out: &mut [u32]) -> Answer
+// Runs a script, and returns how many out cells were written; or says why it is turned back.
+pub fn run(
+    script: &[u32],
+    work: &mut [u32],
+    activities: &mut [f64],
+    out: &mut [u32],
+) -> Result<u64, Refusal>
     ensures { Runs script.now work.old activities.old out.old result work.new activities.new out.new }
 {
-    if script.len() == 0 {
-        return Answer::Ran { cells: 0 };
+    if script.is_empty() {
+        return Ok(0);
     }
-    let j = script::judge(script, work.len(), activities.len(), out.len());
-    match j {
-        Judgement::Refused { number, place } => Answer::Refused {
-            number: number,
-            place: place,
-        },
-        Judgement::Accepted => {
-            let n = records::run_accepted(script, work, activities, out);
-            Answer::Ran { cells: n as u64 }
+    let script = Script::read(script, work.len(), activities.len(), out.len())?;
+    let cells = records::run_accepted(script, work, activities, out);
+    Ok(cells as u64)
+}
+
+// An answer in numbers: refusal is 0 and the result the cells, or they are a refusal's number and place.
+fn in_numbers(answer: Result<u64, Refusal>, refusal: &mut u32) -> u64
+    ensures number { refusal.new ≡ number_of (answer_of answer) }
+    ensures value { result ≡ value_of (answer_of answer) }
+{
+    match answer {
+        Ok(cells) => {
+            *refusal = 0;
+            cells
+        }
+        Err(e) => {
+            *refusal = e.rule.number();
+            e.place
         }
     }
 }
@@ -47,17 +55,7 @@ pub fn engine_run(
 ) -> u64
     ensures { Gives script.now work.old activities.old out.old refusal.new result work.new activities.new out.new }
 {
-    let r = run(script, work, activities, out);
-    match r {
-        Answer::Refused { number, place } => {
-            *refusal = number;
-            place
-        }
-        Answer::Ran { cells } => {
-            *refusal = 0;
-            cells
-        }
-    }
+    in_numbers(run(script, work, activities, out), refusal)
 }
 
 // The work cells that a run asks for, of V variables, C clauses and L literals.
@@ -85,20 +83,7 @@ pub fn engine_at_most(
 ) -> u64
     ensures { GivesAtMost v literals.now k first_helper out.old refusal.new result out.new }
 {
-    let a = counter::at_most(v, literals, k, first_helper, out);
-    match a {
-        counter::Answer::Refused {
-            number: why,
-            place: at,
-        } => {
-            *refusal = why;
-            at
-        }
-        counter::Answer::Written { cells: n } => {
-            *refusal = 0;
-            n
-        }
-    }
+    in_numbers(counter::at_most(v, literals, k, first_helper, out), refusal)
 }
 
 // The cells that the clauses for n literals take; 0 for more literals than a call may have.

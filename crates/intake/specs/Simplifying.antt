@@ -4,7 +4,7 @@ use Rattle.std.proofs.Common.{arith, add-one, subst, ◌∙◌, get_or-set_other
 use Rattle.std.proofs.Math.Path.{refl, sym, ap}
 use Rattle.std.proofs.Math.Bool.{true, false}
 use mathlib.Core.List.{List, [], ◌∷◌, ◌++◌}
-use Rattle.std.proofs.Math.Option.{none, some}
+use Rattle.std.specs.Prelude.{None as none, Some as some}
 use Rattle.std.proofs.Math.ListN.{length, drop}
 use Rattle.std.proofs.Math.Seq.{length-take-le, drop-length}
 use Rattle.std.proofs.Math.Dec.{eqb}

@@ -1,7 +1,7 @@
 -- The theorems of the definition. Each holds for every script that is accepted, whatever cells and slices were lent, and rests on no axiom.
 use Rattle.std.specs.Prelude.{◌≡◌, refl, ◌↔◌, true, List, [], ◌∷◌, ◌++◌, ℕ, suc, ◌+◌, ◌*◌, ◌≤◌, length, get_or}
 use Rattle.std.proofs.Common.{sym, subst, arith}
-use Rattle.std.proofs.Math.Option.{none}
+use Rattle.std.specs.Prelude.{None as none}
 use mathlib.Core.List.Memᴰ.{append_right as in_right}
 use mathlib.Core.List.Memᴰ.{head as here}
 use Rattle.model.specs.Luby.{luby}

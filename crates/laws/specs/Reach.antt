@@ -1,6 +1,6 @@
 -- What a run reaches: the solver before each turn of each search, and each conflict above level 0.
 use Rattle.std.specs.Prelude.{◌≡◌, true, List, ◌∷◌, ◌++◌, ℕ, suc, ◌*◌, ◌<◌}
-use Rattle.std.proofs.Math.Option.{some}
+use Rattle.std.specs.Prelude.{Some as some}
 use Rattle.model.specs.Lit.{neg}
 use Rattle.model.specs.Luby.{luby}
 use Rattle.model.specs.Script.{Config, Record, solve, header, records_of}

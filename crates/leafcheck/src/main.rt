@@ -5,7 +5,6 @@ ghost use Rattle.std.specs.Prelude.{◌<◌, ◌≤◌, length};
 ghost use Rattle.region.specs.Split.{total};
 ghost use Rattle.litset.specs.View.{shape, Rep};
 
-use activity::Choice;
 use clause::{Lit, Var};
 use litset::{Head, Size};
 
@@ -65,11 +64,9 @@ fn activities(rt: &impl Print, act: &[f64], inc: f64) {
 fn picked<'a>(rt: &impl Print, values: &'a [u32; 3], act: &'a [f64])
     requires { 3 ≤ length act.now }
 {
-    let c = activity::pick(values, act);
-    if let Choice::Of(v) = c {
-        number(rt, wide(v.0));
-    } else {
-        number(rt, 3);
+    match activity::pick(values, act) {
+        Some(v) => number(rt, wide(v.0)),
+        None => number(rt, 3),
     }
 }
 

@@ -1,3 +1,2 @@
 mod Reading
 mod Outputs
-mod ReadLaws

@@ -2,6 +2,7 @@
 use Rattle.std.specs.Prelude.{ℕ, ◌≡◌, List, ◌++◌, length, drop, replicate, Float}
 use Rattle.model.specs.State.{f64_zero}
 use Rattle.model.specs.Run.{After, turned_back, ran, after}
+use Rattle.refusal.specs.Number.{number}
 use Rattle.text.specs.Limits.{max_cells}
 use Rattle.text.specs.Format.{Reading, refused, script, read_text, record_lines}
 use Rattle.text.specs.Answers.{printed_refusal, printed}
@@ -15,7 +16,7 @@ answered cells x = elim x.answer [
 
 -- a text's answers, or why it is no script, over slices that hold these cells
 unfoldable pub shown : List ℕ → List Float → List ℕ → Reading → List ℕ
-shown work activities out (refused number place _) = printed_refusal number place
+shown work activities out (refused rule place _) = printed_refusal (number rule) place
 shown work activities out (script cells _) = answered cells (after cells work activities out)
 
 -- with room for 128 variables, 512 clauses and 4,096 literals, and for 16,384 cells of answers

@@ -1,5 +1,5 @@
 -- The parts of `output`, as the code meets them.
-use Rattle.std.specs.Prelude.{ℕ, ◌≤◌, min, ◌≡◌, length, get_or, drop, replicate, Float}
+use Rattle.std.specs.Prelude.{ℕ, ◌≤◌, min, ◌≡◌, length, get_or, drop, replicate, Float, Result, Ok, Err}
 use Rattle.std.proofs.Math.Path.{sym, ap}
 use Rattle.std.proofs.Common.{subst, ◌∙◌, arith, zero-add, length-append, Fits, length-take-le}
 use mathlib.Core.List.{List, ◌++◌}
@@ -10,17 +10,19 @@ use Rattle.std.proofs.Math.Seq.{take_at}
 use Rattle.std.proofs.lemmas.List.Edits.{sets-eq}
 use Rattle.model.specs.Run.{After, turned_back, ran, after}
 use Rattle.engine.specs.Runs.{answer_of, Runs}
-use Rattle.engine.specs.declared.Answer as engine
-use Rattle.engine.specs.declared.Answer.TheVariants as engine_answer
+use Rattle.refusal.specs.declared.Refusal.{Refusal}
+use Rattle.refusal.specs.Number.{number}
 use Rattle.text.specs.Limits.{max_bytes, max_cells}
 use Rattle.text.specs.Format.{Reading, refused, script, read_text, record_lines}
 use Rattle.text.specs.Answers.{printed_refusal, printed}
 use Rattle.text.specs.PrintBound.{Small}
 use Rattle.text.specs.ReadLaws.{Read}
 use Rattle.text.specs.WriteLaws.{Written}
+use Rattle.text.specs.FormatLaws.{over}
 use Rattle.text.specs.ReadLaws as read
-use Rattle.text.specs.declared.Answer as text
-use Rattle.text.specs.declared.Answer.TheVariants as text_answer
+use Rattle.text.specs.declared.reading.Script.{Script}
+use Rattle.refusal.specs.declared.Refusal.{Refusal}
+use Rattle.refusal.specs.Number.{number}
 use Rattle.loadsat.specs.Bench.{answered, shown, output, Printed}
 
 -- ---- there is room for all of it
@@ -58,42 +60,43 @@ answered_ran : (cells : List ℕ) (x : After) (n : ℕ) → ran n ≡ x.answer �
 unfolding answered
 answered_ran cells x n e = rw (← e, answered)
 
-module _ {s w : List ℕ} {a : List Float} {o w' : List ℕ} {a' : List Float} {o' : List ℕ} {r : engine.Answer} (p : Runs s w a o r w' a' o') where
-  pub run_refused : (number place : ℕ) → r ≡ engine_answer.Refused number place → printed_refusal number place ≡ answered s (after s w a o)
-  run_refused number place e = sym (answered_refused s (after s w a o) number place (sym (ap answer_of e) ∙ p.answer))
+module _ {s w : List ℕ} {a : List Float} {o w' : List ℕ} {a' : List Float} {o' : List ℕ} {r : Result ℕ Refusal} (p : Runs s w a o r w' a' o') where
+  pub run_refused : (f : Refusal) → r ≡ Err f → printed_refusal (number f.rule) f.place ≡ answered s (after s w a o)
+  run_refused f e = sym (answered_refused s (after s w a o) (number f.rule) f.place (sym (ap answer_of e) ∙ p.answer))
 
-  pub run_ran : (n : ℕ) (lines : List ℕ) → r ≡ engine_answer.Ran n → lines ≡ record_lines max_cells → printed s lines o' ≡ answered s (after s w a o)
+  pub run_ran : (n : ℕ) (lines : List ℕ) → r ≡ Ok n → lines ≡ record_lines max_cells → printed s lines o' ≡ answered s (after s w a o)
   run_ran n lines e l =
       ap (λ (ls : List ℕ). printed s ls o') l ∙ ap (printed s (record_lines max_cells)) p.out
       ∙ sym (answered_ran s (after s w a o) n (sym (ap answer_of e) ∙ p.answer))
 
 -- ---- the text as it is read
 
-refused_of : (w : List ℕ) (a : List Float) (o : List ℕ) (x : Reading) (number place : ℕ) → text_answer.Refused number place ≡ read.answer_of x
-    → printed_refusal number place ≡ shown w a o x
+refused_of : (w : List ℕ) (a : List Float) (o : List ℕ) (x : Reading) (f : Refusal) → Err f ≡ read.answer_of x → printed_refusal (number f.rule) f.place ≡ shown w a o x
 unfolding shown
-refused_of w a o (refused m q before) number place e = cc
-refused_of w a o (script xs k) number place e = let z : ◌≡◌ {A = ℕ} 0 1 = cc in absurd (omega arith)
+refused_of w a o (refused rule q before) f e = let z : f ≡ record { rule = rule; place = q } = cc in ap (λ (g : Refusal). printed_refusal (number g.rule) g.place) z
+refused_of w a o (script xs k) f e = cc
 
-script_of : (x : Reading) (n k : ℕ) → text_answer.Script n k ≡ read.answer_of x → (xs : List ℕ) × (x ≡ script xs k) × (length xs ≡ n)
-script_of (refused m q before) n k e = let z : ◌≡◌ {A = ℕ} 0 1 = cc in absurd (omega arith)
-script_of (script xs j) n k e = (xs, cc, cc)
+script_of : (x : Reading) (s : Script) → Ok s ≡ read.answer_of x → (xs : List ℕ) × (x ≡ script xs s.records) × (length xs ≡ s.cells)
+script_of (refused rule q before) s e = absurd (cc)
+script_of (script xs k) s e = let z : s ≡ record { cells = length xs; records = k } = cc in (xs, ap (λ (t : Script). script xs t.records) (sym z), ap (λ (t : Script). t.cells) (sym z))
 
 -- read into a slice of max_cells cells
-module _ (input : List ℕ) {before behind : List ℕ} {r : text.Answer} (h : length before ≡ max_cells) (q : Read (read_text (min max_cells (length before)) input) before behind r) where
+module _ (input : List ℕ) {before behind : List ℕ} {r : Result Script Refusal} (h : length before ≡ max_cells) (q : Read (read_text (min max_cells (length before)) input) before behind r) where
   p : Read (read_text max_cells input) before behind r
   p = subst (λ (room : ℕ). Read (read_text room input) before behind r) (omega (arith, h)) q
 
-  pub text_refused : (w : List ℕ) (a : List Float) (o : List ℕ) (number place : ℕ) → r ≡ text_answer.Refused number place
-      → printed_refusal number place ≡ shown w a o (read_text max_cells input)
-  text_refused w a o number place e = refused_of w a o (read_text max_cells input) number place (sym e ∙ p.answer)
+  pub text_refused : (w : List ℕ) (a : List Float) (o : List ℕ) (f : Refusal) → r ≡ Err f → printed_refusal (number f.rule) f.place ≡ shown w a o (read_text max_cells input)
+  text_refused w a o f e = refused_of w a o (read_text max_cells input) f (sym e ∙ p.answer)
 
-  module _ (n k : ℕ) (e : r ≡ text_answer.Script n k) where
+  module _ (s : Script) (e : r ≡ Ok s) where
+    abbrev n : ℕ
+    n = s.cells
+
     -- the script stands first in its slice
-    stored : (xs : List ℕ) × (read_text max_cells input ≡ script xs k) × (length xs ≡ n) × (behind ≡ xs ++ drop (length xs) before)
+    stored : (xs : List ℕ) × (read_text max_cells input ≡ script xs s.records) × (length xs ≡ n) × (behind ≡ xs ++ drop (length xs) before)
     stored =
-        let t = script_of (read_text max_cells input) n k (sym e ∙ p.answer) in
-        (t.0, t.1, t.2, p.slice ∙ ap (λ (y : Reading). read.over (read.stored y) before) t.1)
+        let t = script_of (read_text max_cells input) s (sym e ∙ p.answer) in
+        (t.0, t.1, t.2, p.slice ∙ ap (λ (y : Reading). over (read.stored y) before) t.1)
 
     pub cells_in : n ≤ length behind
     cells_in =

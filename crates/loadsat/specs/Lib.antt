@@ -1,6 +1,5 @@
--- The bench program. A reader has to believe Bench, Reads and Responses, and what they name.
+-- The bench program. A reader has to believe Bench and Responses, and what they name.
 pub mod Bench
 pub mod Example
 pub mod Laws
-pub mod Reads
 pub mod Responses

@@ -14,37 +14,35 @@ struct Part {
     seq: u32,
 }
 
-// The shortest beginning that holds term x.
-fn climb(x: u32) -> Part
-    requires { x < 131072 }
-    ensures { Climbed x result.seq result.size (climb x 1 0 x) }
-{
-    let mut size: u32 = 1;
-    let mut seq: u32 = 0;
-    while size < x + 1 {
-        seq += 1;
-        size = 2 * size + 1;
+impl Part {
+    // The shortest beginning that holds term x.
+    fn holding(x: u32) -> Part
+        requires { x < 131072 }
+        ensures { Climbed x result.seq result.size (climb x 1 0 x) }
+    {
+        let mut size: u32 = 1;
+        let mut seq: u32 = 0;
+        while size <= x {
+            size = 2 * size + 1;
+            seq += 1;
+        }
+        Part { size, seq }
     }
-    Part {
-        size: size,
-        seq: seq,
-    }
-}
 
-// The exponent of term x, from a beginning that holds it down to the one that ends with it.
-fn descend(from: Part, x: u32) -> u32
-    requires { Beginning x from.seq from.size }
-    ensures { result ≡ descend from.seq from.size x }
-{
-    let mut size = from.size;
-    let mut seq = from.seq;
-    let mut y = x;
-    while size - 1 != y {
-        size = (size - 1) / 2;
-        seq -= 1;
-        y = y % size;
+    // The exponent of term x, from a beginning that holds it down to the one that ends with it.
+    fn exponent(self, x: u32) -> u32
+        requires { Beginning x self.seq self.size }
+        ensures { result ≡ descend self.seq self.size x }
+    {
+        let Part { mut size, mut seq } = self;
+        let mut y = x;
+        while size - 1 != y {
+            size = (size - 1) / 2;
+            seq -= 1;
+            y %= size;
+        }
+        seq
     }
-    seq
 }
 
 // Term x by the Rust's two loops, at base 2.
@@ -52,7 +50,7 @@ fn by_loops(x: u32) -> u32
     requires { x < 131072 }
     ensures { Term x result }
 {
-    1 << descend(climb(x), x)
+    1 << Part::holding(x).exponent(x)
 }
 
 // Term x, from 0: off the table, and by the loops beyond it.

@@ -3,6 +3,7 @@ ghost use Rattle.std.specs.Prelude.{◌<◌};
 ghost use Rattle.luby.specs.Laws.{Term};
 ghost use Rattle.luby.specs.Table.{count, Checked};
 
+// The caller tests x against it; `get`, and a match on what it gives, would be no plainer.
 pub const COUNT: u32 = 1023;
 
 #[rattlefmt::skip]
@@ -79,7 +80,7 @@ fn entry(table: &[u16; 1023], x: u32) -> u32
     requires x_lt_count { x < count }
     ensures { Term x result }
 {
-    table[x as usize] as u32
+    table[x as usize].into()
 }
 
 // Term x, off the table.

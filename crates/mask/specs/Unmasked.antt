@@ -1,7 +1,7 @@
 -- Rule 4 of mode 2 without the mask of levels: the functions of crate model, `Minimise` and `Analyze`, with no question about a literal's level but
 -- whether it is 0. Each has the name of the one that it follows, and `-unmasked`.
 use Rattle.std.specs.Prelude.{ℕ, zero, suc, true, false, not, ◌||◌, List, [], ◌∷◌, ◌++◌, length, get_or, drop, set, eqb}
-use Rattle.std.proofs.Math.Option.{Option, none, some}
+use Rattle.std.specs.Prelude.{Option, None as none, Some as some}
 use Rattle.model.specs.Lit.{var, no_reason}
 use Rattle.model.specs.Script.{Config}
 use Rattle.model.specs.State.{Store, VarState, Solver, level_lit, reason_lit, reason_rest}

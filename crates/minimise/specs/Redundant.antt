@@ -2,7 +2,7 @@
 use Rattle.std.specs.Prelude.{ℕ, zero, suc, ◌+◌, ◌-◌, ◌≤◌, ◌<◌, ◌≡◌, refl, true, false, List, [], ◌∷◌, reverse, length, get_or, set, drop}
 use native.Mathlib.Omega.{arith}
 use Rattle.std.proofs.Common.{ap, sym, ◌∙◌, true≢false, length-set, get_or-set_same}
-use Rattle.std.proofs.Math.Option.{Option, some}
+use Rattle.std.specs.Prelude.{Option, Some as some}
 use mathlib.Core.List.Memᴰ.{head as here}
 use Rattle.model.specs.Lit.{var, neg}
 use Rattle.model.specs.State.{Store, VarState, reason_lit, reason_rest}

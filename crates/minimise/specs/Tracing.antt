@@ -2,7 +2,7 @@
 use Rattle.std.specs.Prelude.{ℕ, zero, suc, ◌+◌, ◌*◌, ◌%◌, ◌^◌, ◌≤◌, ◌<◌, ◌≡◌, refl, ◌≢◌, Bool, not, ◌&&◌, ◌||◌, List, [], ◌∷◌, length, get_or, set, drop, eqb}
 use Rattle.std.proofs.Common.{arith, add-one, ap, ap₂, sym, ◌∙◌, true≢false, length-set, get_or-set_same, get_or-set_other, drop-cons, one-mul, mod-eq_of_lt, pow_mono}
 use Rattle.std.proofs.Math.Bool.{true, false}
-use Rattle.std.proofs.Math.Option.{Option, none, some}
+use Rattle.std.specs.Prelude.{Option, None as none, Some as some}
 use Rattle.std.specs.Int.Bits.{bit_and, mask_lt}
 use Rattle.std.proofs.lemmas.Nat.{and_mask}
 use borrow.Author.Tests.{eq-eqb, ne_eqb, eqb-false, not-true}

@@ -1,6 +1,6 @@
 -- Rules 5, 8 and 9: `search`, `solve_internal`, and the answer of a solve.
 use Rattle.std.specs.Prelude.{ℕ, zero, suc, ◌+◌, ◌*◌, true, false, ◌||◌, List, [], ◌∷◌, length, leb, ltb, eqb}
-use Rattle.std.proofs.Math.Option.{Option, none, some}
+use Rattle.std.specs.Prelude.{Option, None as none, Some as some}
 use Rattle.model.specs.Lit.{no_reason, l_true, l_false, l_undef}
 use Rattle.model.specs.Luby.{luby}
 use Rattle.model.specs.Script.{Config}

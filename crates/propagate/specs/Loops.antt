@@ -1,7 +1,7 @@
 -- The loops: a walk over a list, and the queue.
 use Rattle.std.specs.Prelude.{ℕ, suc, ◌+◌, ◌-◌, ◌/◌, ◌≤◌, ◌<◌, ◌≡◌, refl, Bool, true, false, List, [], length, ltb}
 use Rattle.std.proofs.Common.{arith, sym, ap, ap₂, subst, subst₂, ◌∙◌, ltb-true, ltb-false}
-use Rattle.std.proofs.Math.Option.{Option, none}
+use Rattle.std.specs.Prelude.{Option, None as none}
 use Rattle.model.specs.Lit.{no_reason}
 use Rattle.model.specs.State.{State}
 use Rattle.model.specs.Propagate as Definition

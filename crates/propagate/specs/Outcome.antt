@@ -1,7 +1,7 @@
 -- A watch whose blocker is not true: each case of the code is the definition's.
 use Rattle.std.specs.Prelude.{ℕ, ◌+◌, ◌*◌, ◌/◌, ◌<◌, ◌≡◌, refl, ◌≢◌, Bool, true, false, List, [], ◌∷◌, ◌++◌, length, get_or, set, drop}
 use Rattle.std.proofs.Common.{arith, sym, ap, subst, subst₂, ◌∙◌, set-set, get_or-set_same}
-use Rattle.std.proofs.Math.Option.{none, some}
+use Rattle.std.specs.Prelude.{None as none, Some as some}
 use Rattle.model.specs.Lit.{neg, is_true}
 use Rattle.model.specs.State.{Watch, State}
 use Rattle.model.specs.Store.{push_watch}

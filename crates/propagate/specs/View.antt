@@ -1,6 +1,6 @@
 -- What the functions of propagation do to the whole state.
 use Rattle.std.specs.Prelude.{ℕ, suc, ◌+◌, ◌-◌, ◌*◌, ◌/◌, ◌≤◌, ◌<◌, ◌≡◌, ◌≢◌, ◌⊎◌, Bool, true, false, List, length, get_or, set, drop}
-use Rattle.std.proofs.Math.Option.{Option, none, some}
+use Rattle.std.specs.Prelude.{Option, None as none, Some as some}
 use Rattle.model.specs.Lit.{neg, is_true, is_false}
 use Rattle.model.specs.Propagate as Definition
 use Rattle.model.specs.Propagate.{new_watch}

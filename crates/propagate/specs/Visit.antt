@@ -4,7 +4,7 @@ use Prim.Native.Nat.{ℕ, zero, suc, ◌≤◌, ◌<◌}
 use Rattle.std.proofs.Common.{arith, sym, ap, ap₂, subst, ◌∙◌, drop_of_length-le, take_all, set-set, get_or-set_same, get_or-set_other, ne_eqb, lt-ltb, le-ltb}
 use Rattle.std.specs.Prelude.{◌≡◌, ◌≢◌, Bool, true, false, not, ◌&&◌, List, [], ◌∷◌, ◌++◌, eqb, length, get_or, set, take, drop}
 use Rattle.std.proofs.Math.Path.{refl}
-use Rattle.std.proofs.Math.Option.{Option, none, some}
+use Rattle.std.specs.Prelude.{Option, None as none, Some as some}
 use Rattle.std.proofs.lemmas.List.{set_comm}
 use Rattle.model.specs.Lit.{neg, no_reason, is_true, is_false}
 use Rattle.model.specs.Script.{Config}

@@ -2,7 +2,7 @@
 use Rattle.std.specs.Prelude.{ℕ, zero, suc, ◌+◌, ◌-◌, ◌*◌, ◌≤◌, ◌<◌, ◌≡◌, refl, ◌≢◌, true, false, List, [], ◌∷◌, ◌++◌, length, get_or, set, take, drop}
 use Rattle.std.proofs.Common.{arith, not-suc-le-zero, sym, ap, subst, ◌∙◌, inl, inr, append_assoc, length-set, length-append, length-drop, take-append-drop, get_or-set_same, length-take-le}
 use mathlib.Core.List.Memᴰ.{head as here}
-use Rattle.std.proofs.Math.Option.{some}
+use Rattle.std.specs.Prelude.{Some as some}
 use Rattle.model.specs.Lit.{var, neg, no_reason}
 use Rattle.model.specs.State.{Watch, State}
 use Rattle.model.specs.Propagate.{false_second, stays, goes, false_clause, look}

@@ -1,5 +1,5 @@
 -- An accepted script: its sizes, and the parts of the slices that are the run's own.
-use Rattle.std.specs.Prelude.{ℕ, ◌+◌, ◌*◌, ◌-◌, ◌≤◌, ◌≡◌, refl, List, ◌++◌, length, get_or, take, drop, replicate}
+use Rattle.std.specs.Prelude.{ℕ, ◌+◌, ◌*◌, ◌-◌, ◌≤◌, ◌≡◌, List, ◌++◌, length, take, drop, replicate}
 use Rattle.std.proofs.Common.{arith, sym, ◌∙◌, subst, length-take-le}
 use Rattle.std.proofs.Math.Path.{ap}
 use Rattle.model.specs.Limits as Limits
@@ -9,16 +9,8 @@ use Rattle.ends.specs.Bounds.{Limited}
 use Rattle.script.specs.Accepted.{Accepted}
 use Rattle.laws.proofs.Run.{limited}
 use Rattle.state.specs.declared.Config.{Config}
-use Rattle.state.specs.declared.Sizes.{Sizes}
 use Rattle.state.specs.Still.{config_of}
-use Rattle.state.specs.View.{Room}
 use Rattle.records.specs.Recording.{Lent}
-
--- the header's cells
-pub config_is : (s : List ℕ) (v c l : ℕ) → v ≡ get_or s 0 0 → c ≡ get_or s 1 0 → l ≡ get_or s 2 0
-    → config_of (record { sizes = record { vars = v; room = c; lit_room = l }; mode = get_or s 3 0; phase = get_or s 4 0; unit = get_or s 5 0 }) ≡ header s
-unfolding header
-config_is s v c l ev ec el = rw (ev, ec, el)
 
 module _ (g : Config) (s : List ℕ) (work activities out : ℕ) (a : Accepted s work activities out) (e : config_of g ≡ header s) where
   sizes : Limited (config_of g)
@@ -45,7 +37,7 @@ module _ (g : Config) (s : List ℕ) (work activities out : ℕ) (a : Accepted s
         limited = sizes;
         room = record { fits = omega (arith, f, need_is); some = sizes.least_variables; vars = sizes.variables; room = sizes.clauses; lit_room = lits };
         counted = h;
-        readable = rw vars_are a.readable;
+        records = rw vars_are a.records_fit;
         fits = rw vars_are a.out_fits;
       }
 

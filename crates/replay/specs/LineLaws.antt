@@ -1,60 +1,58 @@
 -- Lines read word by word.
-use Rattle.std.specs.Prelude.{◌≡◌, ℕ, suc, ◌+◌, ◌-◌, ◌%◌, ◌^◌, ◌<◌, ◌≤◌, Bool, true, false, not, List, [], ◌∷◌, ◌++◌, length, take, drop, ◌==◌, slice_set, refl}
+use Rattle.std.specs.Prelude.{◌≡◌, ℕ, suc, ◌+◌, ◌%◌, ◌^◌, ◌<◌, ◌≤◌, Bool, true, false, not, Option, None, Some, List, [], ◌∷◌, ◌++◌, length, take, drop, ◌==◌, slice_set, refl}
 use Rattle.std.proofs.Math.Path.{sym, ap}
-use Rattle.std.proofs.Common.{◌∙◌, arith, add-one, length-drop, take-suc-set, lt-ltb, le-ltb}
-use Rattle.std.proofs.Math.ListN.{drop_of_length-le}
+use Rattle.std.proofs.Common.{◌∙◌, arith, add-one, take-suc-set, lt-ltb, le-ltb}
 use Rattle.text.specs.Bytes.{blank, newline}
-use Rattle.text.specs.Split.{push, pieces, before, starts, lines, words}
-use Rattle.text.specs.SplitLaws.{words_from, words_in, words_end, words_turn, lines_turn}
+use Rattle.text.specs.Split.{push, pieces, before, starts, lines}
+use Rattle.text.specs.SplitLaws.{Cut, words_of, words_cut}
+use Rattle.text.specs.FormatLaws.{words_end}
 use Rattle.text.specs.Number.{decimal}
-use Rattle.text.specs.declared.Number.TheVariants.{Bad, Value}
+use denote.Ref.{Bor}
 use Rattle.replay.specs.declared.Tally.{Tally}
 use Rattle.replay.specs.Vector.{vector_holds}
 use Rattle.replay.specs.Lines.{read_on, line_numbers, line_holds, one, added, group_key, scripts, next_group, others, all_scripts, count, tallied, Grouped}
 
 -- the words behind the name
-pub behind_name : (line : List ℕ) (end : ℕ) → end ≡ 0 + length (before blank (drop 0 line)) → words_from line (end + 1) ≡ drop 1 (words line)
-behind_name line end e = sym (ap (drop 1) (sym (words_in line 0 (omega arith)) ∙ words_turn line 0 end (omega arith) e))
-
-pub numbers_start : (line : List ℕ) (room end : ℕ) → end ≡ 0 + length (before blank (drop 0 line))
-    → read_on room [] (words_from line (end + 1)) ≡ line_numbers room line
+pub numbers_start : (line first : List ℕ) (room : ℕ) (o : Option (Bor (List ℕ))) → first ≡ before blank line → Cut blank line first o
+    → read_on room [] (words_of o) ≡ line_numbers room line
 unfolding line_numbers
-numbers_start line room end e = ap (read_on room []) (behind_name line end e)
+numbers_start line first room o e c = ap (λ (ws : List (List ℕ)). read_on room [] (drop 1 ws)) (sym (words_cut line first o e c))
 
-read_bad : (room : ℕ) (xs w : List ℕ) (ws : List (List ℕ)) → decimal w ≡ Bad → read_on room xs (w ∷ ws) ≡ []
+read_bad : (room : ℕ) (xs w : List ℕ) (ws : List (List ℕ)) → decimal w ≡ None → read_on room xs (w ∷ ws) ≡ []
 unfolding read_on
 read_bad room xs w ws e = rw (read_on, e)
 
-read_full : (room : ℕ) (xs w : List ℕ) (ws : List (List ℕ)) (x : ℕ) → decimal w ≡ Value x → room ≤ length xs → read_on room xs (w ∷ ws) ≡ []
+read_full : (room : ℕ) (xs w : List ℕ) (ws : List (List ℕ)) (x : ℕ) → decimal w ≡ Some x → room ≤ length xs → read_on room xs (w ∷ ws) ≡ []
 unfolding read_on
 read_full room xs w ws x e h = rw (read_on, e, le-ltb (length xs) room h)
 
-read_more : (room : ℕ) (xs w : List ℕ) (ws : List (List ℕ)) (x : ℕ) → decimal w ≡ Value x → length xs < room
+read_more : (room : ℕ) (xs w : List ℕ) (ws : List (List ℕ)) (x : ℕ) → decimal w ≡ Some x → length xs < room
     → read_on room xs (w ∷ ws) ≡ read_on room (xs ++ (x ∷ [])) ws
 unfolding read_on
 read_more room xs w ws x e h = rw (read_on, e, lt-ltb (length xs) room h)
 
-module _ (line : List ℕ) (i end : ℕ) (h : i ≤ length line) (e : end ≡ i + length (before blank (drop i line))) (room : ℕ) (xs : List ℕ) where
-  turn : read_on room xs (words_from line i) ≡ read_on room xs (take (end - i) (drop i line) ∷ words_from line (end + 1))
-  turn = ap (read_on room xs) (words_turn line i end h e)
+module _ (o : Option (Bor (List ℕ))) {left : Option (Bor (List ℕ))} {line : Bor (List ℕ)} {w : List ℕ} (e : left ≡ Some line) (f : w ≡ before blank line.now) (c : Cut blank line.now w o)
+    (room : ℕ) (xs : List ℕ) where
+  turn : read_on room xs (words_of left) ≡ read_on room xs (w ∷ words_of o)
+  turn = ap (read_on room xs) (ap words_of e ∙ words_cut line.now w o f c)
 
-  pub numbers_bad : decimal (take (end - i) (drop i line)) ≡ Bad → [] ≡ read_on room xs (words_from line i)
-  numbers_bad b = sym (turn ∙ read_bad room xs (take (end - i) (drop i line)) (words_from line (end + 1)) b)
+  pub numbers_bad : decimal w ≡ None → [] ≡ read_on room xs (words_of left)
+  numbers_bad b = sym (turn ∙ read_bad room xs w (words_of o) b)
 
-  module _ (x : ℕ) (b : decimal (take (end - i) (drop i line)) ≡ Value x) where
-    pub numbers_full : room ≤ length xs → [] ≡ read_on room xs (words_from line i)
-    numbers_full l = sym (turn ∙ read_full room xs (take (end - i) (drop i line)) (words_from line (end + 1)) x b l)
+  module _ (x : ℕ) (b : decimal w ≡ Some x) where
+    pub numbers_full : room ≤ length xs → [] ≡ read_on room xs (words_of left)
+    numbers_full l = sym (turn ∙ read_full room xs w (words_of o) x b l)
 
     pub numbers_more : length xs < room → (k : ℕ) (cells : List ℕ) → k < length cells → xs ≡ take k cells
-        → read_on room (take (k + 1) (slice_set cells k x)) (words_from line (end + 1)) ≡ read_on room xs (words_from line i)
+        → read_on room (take (k + 1) (slice_set cells k x)) (words_of o) ≡ read_on room xs (words_of left)
     numbers_more l k cells q p =
-        ap (λ (ys : List ℕ). read_on room ys (words_from line (end + 1)))
+        ap (λ (ys : List ℕ). read_on room ys (words_of o))
         (ap (λ (n : ℕ). take n (slice_set cells k x)) (add-one k) ∙ take-suc-set cells k x q ∙ ap (λ (ys : List ℕ). ys ++ (x ∷ [])) (sym p))
-        ∙ sym (turn ∙ read_more room xs (take (end - i) (drop i line)) (words_from line (end + 1)) x b l)
+        ∙ sym (turn ∙ read_more room xs w (words_of o) x b l)
 
-pub numbers_end : (line : List ℕ) (i room : ℕ) (xs : List ℕ) → length line < i → xs ≡ read_on room xs (words_from line i)
+pub numbers_end : {left : Option (Bor (List ℕ))} (room : ℕ) (xs : List ℕ) → left ≡ None → xs ≡ read_on room xs (words_of left)
 unfolding read_on
-numbers_end line i room xs h = sym (ap (read_on room xs) (words_end line i h))
+numbers_end room xs e = sym (ap (read_on room xs) (words_end e))
 
 -- ---- one script
 
@@ -112,9 +110,8 @@ count_le test (l ∷ ls) = go (test l) (count_le test ls)
     go true h = omega arith
     go false h = omega arith
 
-counted_le : (test : List ℕ → Bool) (input : List ℕ) (from : ℕ) → count test (scripts (lines (drop from input))) ≤ length input
-counted_le test input from =
-    omega (arith, count_le test (scripts (lines (drop from input))), scripts_le (lines (drop from input)), lines_le (drop from input), length-drop from input)
+counted_le : (test : List ℕ → Bool) (input : List ℕ) → count test (scripts (lines input)) ≤ length input
+counted_le test input = omega (arith, count_le test (scripts (lines input)), scripts_le (lines input), lines_le input)
 
 count_one : (test : List ℕ → Bool) (l : List ℕ) (ls : List (List ℕ)) → count test (l ∷ ls) ≡ (one (test l)).passed + count test ls
 unfolding count one
@@ -148,59 +145,54 @@ next_line : (l : List ℕ) (ls : List (List ℕ)) → starts group_key l ≡ fal
 unfolding next_group
 next_line l ls e = rw (e, next_group)
 
--- what is counted from `from` up to `at`, with what is left, is all that there is to count
-pub record Counting (test : List ℕ → Bool) (input : List ℕ) (from at : ℕ) (t : Tally) : Type 0 where
-  pub passed : t.passed + count test (scripts (lines (drop at input))) ≡ count test (scripts (lines (drop from input)))
-  pub failed : t.failed + count (λ l. not (test l)) (scripts (lines (drop at input))) ≡ count (λ l. not (test l)) (scripts (lines (drop from input)))
-  pub rest : next_group (lines (drop at input)) ≡ next_group (lines (drop from input))
+-- what is counted, with what is left, is all that there is to count
+pub record Counting (test : List ℕ → Bool) (input left : List ℕ) (t : Tally) : Type 0 where
+  pub passed : t.passed + count test (scripts (lines left)) ≡ count test (scripts (lines input))
+  pub failed : t.failed + count (λ l. not (test l)) (scripts (lines left)) ≡ count (λ l. not (test l)) (scripts (lines input))
+  pub rest : next_group (lines left) ≡ next_group (lines input)
+  pub shorter : length left ≤ length input
 
 made : (t : Tally) (p f : ℕ) → t.passed ≡ p → t.failed ≡ f → t ≡ record { passed = p; failed = f }
 made t p f e g = rw (← e, ← g)
 
-module _ (test : List ℕ → Bool) (input : List ℕ) (from : ℕ) where
-  pub counting_start : Counting test input from from record { passed = 0; failed = 0 }
-  counting_start = record { passed = omega arith; failed = omega arith; rest = refl }
+module _ (test : List ℕ → Bool) (input : List ℕ) where
+  pub counting_start : Counting test input input record { passed = 0; failed = 0 }
+  counting_start = record { passed = omega arith; failed = omega arith; rest = refl; shorter = omega arith }
 
-  module _ (at : ℕ) (t : Tally) (k : Counting test input from at t) where
-    grouped : scripts (lines (drop at input)) ≡ [] → lines (drop at input) ≡ next_group (lines (drop at input)) → Grouped test input from at t
+  module _ (left : List ℕ) (t : Tally) (k : Counting test input left t) where
+    grouped : scripts (lines left) ≡ [] → lines left ≡ next_group (lines left) → Grouped test input left t
     unfolding count
     grouped e f =
-        let p : count test (scripts (lines (drop at input))) ≡ 0 = ap (count test) e in
-        let q : count (λ l. not (test l)) (scripts (lines (drop at input))) ≡ 0 = ap (count (λ l. not (test l))) e in
+        let p : count test (scripts (lines left)) ≡ 0 = ap (count test) e in
+        let q : count (λ l. not (test l)) (scripts (lines left)) ≡ 0 = ap (count (λ l. not (test l))) e in
         record {
-          tally = made t (count test (scripts (lines (drop from input)))) (count (λ l. not (test l)) (scripts (lines (drop from input)))) (omega (arith, k.passed, p)) (omega (arith, k.failed, q));
+          tally = made t (count test (scripts (lines input))) (count (λ l. not (test l)) (scripts (lines input))) (omega (arith, k.passed, p)) (omega (arith, k.failed, q));
           rest = f ∙ k.rest;
+          shorter = k.shorter;
         }
 
-    pub counting_end : length input ≤ at → Grouped test input from at t
-    unfolding pieces scripts next_group
-    counting_end h =
-        let e : lines (drop at input) ≡ [] = ap lines (drop_of_length-le input {i = at} h) in
-        grouped (ap scripts e) (e ∙ sym (ap next_group e))
+    pub counting_end : lines left ≡ [] → Grouped test input left t
+    unfolding scripts next_group
+    counting_end e = grouped (ap scripts e) (e ∙ sym (ap next_group e))
 
-    module _ (end : ℕ) (h : at < length input) (e : end ≡ at + length (before newline (drop at input))) where
-      pub counting_title : starts group_key (take (end - at) (drop at input)) ≡ true → Grouped test input from at t
-      counting_title b =
-          let l = take (end - at) (drop at input) in
-          let ls = lines (drop (end + 1) input) in
-          let c : lines (drop at input) ≡ l ∷ ls = lines_turn input at end h e in
-          grouped (ap scripts c ∙ scripts_title l ls b) (c ∙ sym (ap next_group c ∙ next_title l ls b))
+    module _ (l behind : List ℕ) (c : lines left ≡ l ∷ lines behind) where
+      pub counting_title : starts group_key l ≡ true → Grouped test input left t
+      counting_title b = grouped (ap scripts c ∙ scripts_title l (lines behind) b) (c ∙ sym (ap next_group c ∙ next_title l (lines behind) b))
 
-      pub counting_line : starts group_key (take (end - at) (drop at input)) ≡ false → length input < 2 ^ 64
-          → (u v : Tally) → u ≡ one (test (take (end - at) (drop at input))) → v ≡ added t u → Counting test input from (end + 1) v
-      counting_line b small u v eu ev =
-          let l = take (end - at) (drop at input) in
-          let ls = lines (drop (end + 1) input) in
-          let c : lines (drop at input) ≡ l ∷ ls = lines_turn input at end h e in
-          let s : scripts (lines (drop at input)) ≡ l ∷ scripts ls = ap scripts c ∙ scripts_line l ls b in
-          let p : count test (scripts (lines (drop at input))) ≡ u.passed + count test (scripts ls) =
+      pub counting_line : starts group_key l ≡ false → length input < 2 ^ 64 → length behind ≤ length left → (u v : Tally) → u ≡ one (test l) → v ≡ added t u
+          → Counting test input behind v
+      counting_line b small h u v eu ev =
+          let ls = lines behind in
+          let s : scripts (lines left) ≡ l ∷ scripts ls = ap scripts c ∙ scripts_line l ls b in
+          let p : count test (scripts (lines left)) ≡ u.passed + count test (scripts ls) =
           ap (count test) s ∙ count_one test l (scripts ls) ∙ ap (λ (x : Tally). x.passed + count test (scripts ls)) (sym eu) in
-          let q : count (λ x. not (test x)) (scripts (lines (drop at input))) ≡ u.failed + count (λ x. not (test x)) (scripts ls) =
+          let q : count (λ x. not (test x)) (scripts (lines left)) ≡ u.failed + count (λ x. not (test x)) (scripts ls) =
           ap (count (λ x. not (test x))) s ∙ count_other test l (scripts ls) ∙ ap (λ (x : Tally). x.failed + count (λ x. not (test x)) (scripts ls)) (sym eu) in
           record {
-            passed = omega (arith, p, k.passed, counted_le test input from, ap (λ (x : Tally). x.passed) ev);
-            failed = omega (arith, q, k.failed, counted_le (λ x. not (test x)) input from, ap (λ (x : Tally). x.failed) ev);
+            passed = omega (arith, p, k.passed, counted_le test input, ap (λ (x : Tally). x.passed) ev);
+            failed = omega (arith, q, k.failed, counted_le (λ x. not (test x)) input, ap (λ (x : Tally). x.failed) ev);
             rest = sym (next_line l ls b) ∙ sym (ap next_group c) ∙ k.rest;
+            shorter = omega (arith, k.shorter);
           }
 
 -- ---- all groups
@@ -237,38 +229,37 @@ others_parts test (l ∷ ls) = go (starts group_key l) refl (others_parts test l
         let r : count test (all_scripts (next_group (l ∷ ls))) ≡ count test (all_scripts (next_group ls)) = rw (e, next_group) in
         omega (arith, p, q, r, ih, count_one test l (others ls), count_one test l (scripts ls))
 
--- what is counted before `at`, with what is left, is all
-pub record Totalling (test : List ℕ → Bool) (input : List ℕ) (at : ℕ) (t : Tally) : Type 0 where
-  pub passed : t.passed + count test (all_scripts (lines (drop at input))) ≡ count test (all_scripts (lines input))
-  pub failed : t.failed + count (λ l. not (test l)) (all_scripts (lines (drop at input))) ≡ count (λ l. not (test l)) (all_scripts (lines input))
+-- what is counted, with what is left, is all
+pub record Totalling (test : List ℕ → Bool) (input left : List ℕ) (t : Tally) : Type 0 where
+  pub passed : t.passed + count test (all_scripts (lines left)) ≡ count test (all_scripts (lines input))
+  pub failed : t.failed + count (λ l. not (test l)) (all_scripts (lines left)) ≡ count (λ l. not (test l)) (all_scripts (lines input))
 
-pub group_as : {r r' w w' a a' o o' : ℕ} {input : List ℕ} {from end : ℕ} {t : Tally} → Grouped (line_holds r w a o) input from end t → r ≡ r' → w ≡ w' → a ≡ a' → o ≡ o'
-    → Grouped (line_holds r' w' a' o') input from end t
+pub group_as : {r r' w w' a a' o o' : ℕ} {input left : List ℕ} {t : Tally} → Grouped (line_holds r w a o) input left t → r ≡ r' → w ≡ w' → a ≡ a' → o ≡ o'
+    → Grouped (line_holds r' w' a' o') input left t
 group_as g er ew ea eo = rw (er, ew, ea, eo) at g
 
 module _ (test : List ℕ → Bool) (input : List ℕ) where
-  pub totalling_start : Totalling test input 0 record { passed = 0; failed = 0 }
+  pub totalling_start : Totalling test input input record { passed = 0; failed = 0 }
   totalling_start = record { passed = omega arith; failed = omega arith }
 
-  module _ (at : ℕ) (t : Tally) (k : Totalling test input at t) where
-    pub totalling_end : length input ≤ at → t ≡ tallied test (all_scripts (lines input))
-    unfolding pieces all_scripts count
-    totalling_end h =
-        let e : drop at input ≡ [] = drop_of_length-le input {i = at} h in
-        let p : count test (all_scripts (lines (drop at input))) ≡ 0 = ap (λ (l : List ℕ). count test (all_scripts (lines l))) e in
-        let q : count (λ l. not (test l)) (all_scripts (lines (drop at input))) ≡ 0 = ap (λ (l : List ℕ). count (λ l. not (test l)) (all_scripts (lines l))) e in
+  module _ (left : List ℕ) (t : Tally) (k : Totalling test input left t) where
+    pub totalling_end : lines left ≡ [] → t ≡ tallied test (all_scripts (lines input))
+    unfolding all_scripts count
+    totalling_end e =
+        let p : count test (all_scripts (lines left)) ≡ 0 = ap (λ (ls : List (List ℕ)). count test (all_scripts ls)) e in
+        let q : count (λ l. not (test l)) (all_scripts (lines left)) ≡ 0 = ap (λ (ls : List (List ℕ)). count (λ l. not (test l)) (all_scripts ls)) e in
         made t (count test (all_scripts (lines input))) (count (λ l. not (test l)) (all_scripts (lines input))) (omega (arith, k.passed, p)) (omega (arith, k.failed, q))
 
-    module _ (end next : ℕ) (u v : Tally) (h : at < length input) (e : end ≡ at + length (before newline (drop at input))) (g : Grouped test input (end + 1) next u) where
-      left : (f : List ℕ → Bool) → count f (all_scripts (lines (drop at input))) ≡ count f (scripts (lines (drop (end + 1) input))) + count f (all_scripts (lines (drop next input)))
+    module _ (l behind next : List ℕ) (u v : Tally) (c : lines left ≡ l ∷ lines behind) (g : Grouped test behind next u) where
+      parted : (f : List ℕ → Bool) → count f (all_scripts (lines left)) ≡ count f (scripts (lines behind)) + count f (all_scripts (lines next))
       unfolding all_scripts
-      left f =
-          ap (λ (x : List (List ℕ)). count f (all_scripts x)) (lines_turn input at end h e) ∙ others_parts f (lines (drop (end + 1) input))
-          ∙ ap (λ (x : List (List ℕ)). count f (scripts (lines (drop (end + 1) input))) + count f (all_scripts x)) (sym g.rest)
+      parted f =
+          ap (λ (x : List (List ℕ)). count f (all_scripts x)) c ∙ others_parts f (lines behind)
+          ∙ ap (λ (x : List (List ℕ)). count f (scripts (lines behind)) + count f (all_scripts x)) (sym g.rest)
 
       pub totalling_group : length input < 2 ^ 64 → v ≡ added t u → Totalling test input next v
       totalling_group small ev =
           record {
-            passed = omega (arith, left test, k.passed, totalled_le test input, ap (λ (x : Tally). x.passed) ev, ap (λ (x : Tally). x.passed) g.tally);
-            failed = omega (arith, left (λ x. not (test x)), k.failed, totalled_le (λ x. not (test x)) input, ap (λ (x : Tally). x.failed) ev, ap (λ (x : Tally). x.failed) g.tally);
+            passed = omega (arith, parted test, k.passed, totalled_le test input, ap (λ (x : Tally). x.passed) ev, ap (λ (x : Tally). x.passed) g.tally);
+            failed = omega (arith, parted (λ x. not (test x)), k.failed, totalled_le (λ x. not (test x)) input, ap (λ (x : Tally). x.failed) ev, ap (λ (x : Tally). x.failed) g.tally);
           }

@@ -1,8 +1,7 @@
 -- Vectors as lines of text, and how many of them hold.
-use Rattle.std.specs.Prelude.{◌≡◌, ℕ, ◌+◌, ◌%◌, ◌^◌, Bool, true, false, not, List, [], ◌∷◌, ◌++◌, length, drop, nat_lt}
+use Rattle.std.specs.Prelude.{◌≡◌, ℕ, ◌+◌, ◌%◌, ◌^◌, Bool, true, false, not, None, Some, List, [], ◌∷◌, ◌++◌, length, drop, nat_lt, ◌≤◌}
 use Rattle.text.specs.Split.{lines, words, starts}
 use Rattle.text.specs.Number.{decimal}
-use Rattle.text.specs.declared.Number.TheVariants.{Bad, Value}
 use Rattle.replay.specs.declared.Tally.{Tally}
 use Rattle.replay.specs.Vector.{vector_holds}
 
@@ -11,8 +10,8 @@ unfoldable pub read_on : ℕ → List ℕ → List (List ℕ) → List ℕ
 read_on room xs [] = xs
 read_on room xs (w ∷ ws) =
     elim (decimal w) [
-      | Bad ↦ []
-      | Value x ↦ elim (nat_lt (length xs) room) [ true ↦ read_on room (xs ++ (x ∷ [])) ws | false ↦ [] ]
+      | None ↦ []
+      | Some x ↦ elim (nat_lt (length xs) room) [ true ↦ read_on room (xs ++ (x ∷ [])) ws | false ↦ [] ]
     ]
 
 -- the numbers behind the name of a line
@@ -66,7 +65,8 @@ count test (l ∷ ls) = elim (test l) [ true ↦ 1 + count test ls | false ↦ c
 abbrev pub tallied : (List ℕ → Bool) → List (List ℕ) → Tally
 tallied test ls = record { passed = count test ls; failed = count (λ l. not (test l)) ls }
 
--- a group whose scripts are counted, and where the next begins
-pub record Grouped (test : List ℕ → Bool) (input : List ℕ) (from end : ℕ) (t : Tally) : Type 0 where
-  pub tally : t ≡ tallied test (scripts (lines (drop from input)))
-  pub rest : lines (drop end input) ≡ next_group (lines (drop from input))
+-- a group whose scripts are counted, and the text from the next one on
+pub record Grouped (test : List ℕ → Bool) (input left : List ℕ) (t : Tally) : Type 0 where
+  pub tally : t ≡ tallied test (scripts (lines input))
+  pub rest : lines left ≡ next_group (lines input)
+  pub shorter : length left ≤ length input

@@ -1,5 +1,5 @@
 -- Whether a vector holds, from the engine's promise and the code's comparing.
-use Rattle.std.specs.Prelude.{◌≡◌, ℕ, zero, suc, ◌+◌, ◌-◌, ◌<◌, ◌≤◌, Bool, true, false, ◌&&◌, List, [], ◌∷◌, ◌++◌, length, take, drop, replicate, ◌≢◌, nat_le, slice_index, slice_index_or, Float}
+use Rattle.std.specs.Prelude.{◌≡◌, ℕ, zero, suc, ◌+◌, ◌-◌, ◌<◌, ◌≤◌, Bool, true, false, ◌&&◌, List, [], ◌∷◌, ◌++◌, length, take, drop, replicate, ◌≢◌, nat_le, slice_index, slice_index_or, Float, Result, Ok, Err}
 use Rattle.std.proofs.Math.Path.{refl, ap}
 use Rattle.std.proofs.Common.{sym, ◌∙◌, arith, length-drop, take_all}
 use Rattle.std.proofs.Math.Bool.{and-false}
@@ -10,8 +10,8 @@ use Rattle.model.specs.Run.{Answer, turned_back, ran, After, after}
 use Rattle.script.specs.Needs.{sized}
 use Rattle.engine.specs.Answering.{refusal_numbered}
 use Rattle.engine.specs.Runs.{answer_of, Runs}
-use Rattle.engine.specs.declared.Answer as engine
-use Rattle.engine.specs.declared.Answer.TheVariants as engine_answer
+use Rattle.refusal.specs.declared.Refusal.{Refusal}
+use Rattle.refusal.specs.Number.{number}
 use Rattle.replay.specs.Cells.{noise_cells, noise_floats, float, same, same_floats}
 use Rattle.replay.specs.Vector.{same_answer, agrees, cleared, wanted, is_run, untouched, passes, vector_holds}
 
@@ -118,7 +118,7 @@ module _ (w : List ℕ) (a : List Float) (o : List ℕ) (b : Bool) (p : b ≡ sa
 
 -- ---- a script run over noise
 
-pub over_noise : {s w : List ℕ} {a : List Float} {o : List ℕ} {r : engine.Answer} {w' : List ℕ} {a' : List Float} {o' : List ℕ} (work activities out : ℕ)
+pub over_noise : {s w : List ℕ} {a : List Float} {o : List ℕ} {r : Result ℕ Refusal} {w' : List ℕ} {a' : List Float} {o' : List ℕ} (work activities out : ℕ)
     → Runs s w a o r w' a' o' → w ≡ noise_cells work → a ≡ noise_floats activities → o ≡ noise_cells out
     → Runs s (noise_cells work) (noise_floats activities) (noise_cells out) r w' a' o'
 over_noise work activities out k ew ea eo = rw (ew, ea, eo) at k
@@ -155,7 +155,7 @@ module _ (s cells : List ℕ) (place work activities out : ℕ) where
   other_place zero m q h = refl
   other_place (suc k) m q h = rw (ne_eqb q place (λ e. h (sym e)), and-false)
 
-  module _ {r : engine.Answer} {w' : List ℕ} {a' : List Float} {o' : List ℕ} (refusal : ℕ)
+  module _ {r : Result ℕ Refusal} {w' : List ℕ} {a' : List Float} {o' : List ℕ} (refusal : ℕ)
       (k : Runs s (noise_cells work) (noise_floats activities) (noise_cells out) r w' a' o') where
     kept : (x : Answer) → answer_of r ≡ x
         → after s (noise_cells work) (noise_floats activities) (noise_cells out) ≡ record { answer = x; work = w'; activities = a'; out = o' }
@@ -171,17 +171,17 @@ module _ (s cells : List ℕ) (place work activities out : ℕ) where
         → false ≡ passes s refusal place cells work activities out
     fails x e f = disagree record { answer = x; work = w'; activities = a'; out = o' } (wanted s refusal place cells work activities out) f ∙ passes_by x e
 
-    pub fails_ran : (n : ℕ) → r ≡ engine_answer.Ran n → (refusal ≢ 0) → false ≡ passes s refusal place cells work activities out
+    pub fails_ran : (n : ℕ) → r ≡ Ok n → (refusal ≢ 0) → false ≡ passes s refusal place cells work activities out
     fails_ran n e h = fails (ran n) (ap answer_of e) (other_than_run refusal n h)
 
-    pub fails_number : (m q : ℕ) → r ≡ engine_answer.Refused m q → (refusal ≢ m) → false ≡ passes s refusal place cells work activities out
-    fails_number m q e h = fails (turned_back m q) (ap answer_of e) (other_number refusal m q h)
+    pub fails_number : (f : Refusal) → r ≡ Err f → (refusal ≢ number f.rule) → false ≡ passes s refusal place cells work activities out
+    fails_number f e h = fails (turned_back (number f.rule) f.place) (ap answer_of e) (other_number refusal (number f.rule) f.place h)
 
-    pub fails_place : (m q : ℕ) → r ≡ engine_answer.Refused m q → (place ≢ q) → false ≡ passes s refusal place cells work activities out
-    fails_place m q e h = fails (turned_back m q) (ap answer_of e) (other_place refusal m q h)
+    pub fails_place : (f : Refusal) → r ≡ Err f → (place ≢ f.place) → false ≡ passes s refusal place cells work activities out
+    fails_place f e h = fails (turned_back (number f.rule) f.place) (ap answer_of e) (other_place refusal (number f.rule) f.place h)
 
     module _ (lw : length w' ≡ work) (la : length a' ≡ activities) (lo : length o' ≡ out) where
-      pub passes_ran : (n : ℕ) (b : Bool) → r ≡ engine_answer.Ran n → refusal ≡ 0 → b ≡ is_run s cells n w' a' o' → b ≡ passes s refusal place cells work activities out
+      pub passes_ran : (n : ℕ) (b : Bool) → r ≡ Ok n → refusal ≡ 0 → b ≡ is_run s cells n w' a' o' → b ≡ passes s refusal place cells work activities out
       unfolding is_run
       passes_ran n b e z p = p ∙ run_agrees ∙ ap (agrees (record { answer = ran n; work = w'; activities = a'; out = o' })) any_place ∙ passes_by (ran n) (ap answer_of e)
         where
@@ -191,12 +191,12 @@ module _ (s cells : List ℕ) (place work activities out : ℕ) where
           any_place : wanted s 0 0 cells work activities out ≡ wanted s refusal place cells work activities out
           any_place = wanted-run s cells place work activities out refusal z
 
-      pub passes_refused : (m q : ℕ) (b : Bool) → r ≡ engine_answer.Refused m q → refusal ≡ m → place ≡ q → b ≡ untouched w' a' o' → b ≡ passes s refusal place cells work activities out
-      passes_refused m q b e f g p =
-          p ∙ untouched-agrees w' a' o' m q refusal place f g ∙ rw (lw, la, lo) (rw (← wanted_refusal refusal some) (passes_by (turned_back m q) (ap answer_of e)))
+      pub passes_refused : (t : Refusal) (b : Bool) → r ≡ Err t → refusal ≡ number t.rule → place ≡ t.place → b ≡ untouched w' a' o' → b ≡ passes s refusal place cells work activities out
+      passes_refused t b e f g p =
+          p ∙ untouched-agrees w' a' o' (number t.rule) t.place refusal place f g ∙ rw (lw, la, lo) (rw (← wanted_refusal refusal some) (passes_by (turned_back (number t.rule) t.place) (ap answer_of e)))
         where
           some : 1 ≤ refusal
-          some = omega (arith, f, refusal_numbered s (noise_cells work) (noise_floats activities) (noise_cells out) m q (sym k.answer ∙ ap answer_of e))
+          some = omega (arith, f, refusal_numbered s (noise_cells work) (noise_floats activities) (noise_cells out) (number t.rule) t.place (sym k.answer ∙ ap answer_of e))
 
 -- ---- a vector in numbers
 

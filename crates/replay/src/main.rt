@@ -6,12 +6,11 @@
 
 ghost use Rattle.std.specs.Prelude.{◌≡◌, ◌+◌, ◌^◌, ◌<◌, ◌≤◌, ◌++◌, length, take, drop, replicate};
 ghost use Rattle.model.specs.Script.{header};
-ghost use Rattle.text.specs.Split.{before, lines};
+ghost use Rattle.text.specs.Split.{lines};
 ghost use Rattle.replay.specs.Lines.{line_numbers, line_holds, one, added, all_scripts, tallied, Grouped};
 ghost use Rattle.replay.specs.Vector.{cleared, is_run, untouched, passes, vector_holds};
 ghost use Rattle.replay.specs.Cells.{noise, noise_cells, noise_floats, cell_behind, cell_clear, float, like, same, same_floats};
 
-use engine::Answer;
 use std::io::Read;
 
 // ---- noise: never 0, and never the same in two cells next to each other
@@ -107,18 +106,6 @@ fn is_clear_floats(s: &[f64], n: usize) -> bool
 
 // ---- a script
 
-fn wide(x: u32) -> usize
-    ensures { result ≡ x }
-{
-    x as usize
-}
-
-fn wider(x: u32) -> u64
-    ensures { result ≡ x }
-{
-    x as u64
-}
-
 // The work cells that a run of the script clears.
 fn cleared(script: &[u32]) -> usize
     ensures { result ≡ cleared script.now }
@@ -136,7 +123,7 @@ fn variables(script: &[u32]) -> usize
     if script.len() == 0 {
         return 0;
     }
-    wide(script[0])
+    script[0] as usize
 }
 
 // Whether a run that wrote n out cells left these slices.
@@ -191,17 +178,19 @@ fn gives(
     fill_floats(activities);
     fill(out);
     match engine::run(script, work, activities, out) {
-        Answer::Ran { cells } => {
+        Ok(cells) => {
             if refusal != 0 {
                 return false;
             }
             is_run(script, want, cells, work, activities, out)
         }
-        Answer::Refused { number, place } => {
+        Err(refused) => {
+            let number = refused.rule.number();
+            let place = refused.place;
             if refusal != number {
                 return false;
             }
-            if wider(refused_at) != place {
+            if u64::from(refused_at) != place {
                 return false;
             }
             is_untouched(work, activities, out)
@@ -216,10 +205,10 @@ fn holds(numbers: &[u32], work: &mut [u32], activities: &mut [f64], out: &mut [u
     if numbers.len() < 6 {
         return false;
     }
-    let w = wide(numbers[0]);
-    let a = wide(numbers[1]);
-    let o = wide(numbers[2]);
-    let count = wide(numbers[5]);
+    let w = numbers[0] as usize;
+    let a = numbers[1] as usize;
+    let o = numbers[2] as usize;
+    let count = numbers[5] as usize;
     if work.len() < w {
         return false;
     }
@@ -246,23 +235,15 @@ fn holds(numbers: &[u32], work: &mut [u32], activities: &mut [f64], out: &mut [u
 
 // ---- the text
 
-// The place of the first byte `sought` from a place on, or the end.
-fn end_of(s: &[u8], from: usize, sought: u8) -> usize
-    requires { from ≤ length s.now }
-    ensures { (from ≤ result) × (result ≤ length s.now) × (result ≡ from + length (before sought (drop from s.now))) }
-{
-    text::find(s, from, sought)
-}
-
 // Stores the numbers behind the name of a line; none if a word is no number, or they do not fit.
 fn numbers(line: &[u8], cells: &mut [u32]) -> usize
     ensures { (result ≤ length cells.new) × (take result cells.new ≡ line_numbers (length cells.old) line.now) }
 {
-    let mut i = end_of(line, 0, 32) + 1;
-    let mut k: usize = 0;
-    while i <= line.len() {
-        let end = end_of(line, i, 32);
-        let text::Number::Value(x) = text::decimal(&line[i..end]) else {
+    let (_, mut left) = text::cut(line, b' ');
+    let mut k = 0;
+    while let Some(words) = left {
+        let (word, behind) = text::cut(words, b' ');
+        let Some(x) = text::decimal(word) else {
             return 0;
         };
         if cells.len() <= k {
@@ -270,7 +251,7 @@ fn numbers(line: &[u8], cells: &mut [u32]) -> usize
         }
         cells[k] = x;
         k += 1;
-        i = end + 1;
+        left = behind;
     }
     k
 }
@@ -300,9 +281,9 @@ fn show(rt: &impl Print, title: &[u8], t: Tally) {
 }
 
 fn show_failed(rt: &impl Print, line: &[u8]) {
-    let end = end_of(line, 0, 32);
+    let (name, _) = text::cut(line, b' ');
     let _ = rt.print("FAILED ");
-    let _ = rt.write_all(&line[..end]);
+    let _ = rt.write_all(name);
     let _ = println!(rt);
 }
 
@@ -331,39 +312,31 @@ fn script(
     }
 }
 
-// A group counted, and where it ends.
-#[derive(Clone, Copy)]
-struct Counted {
-    tally: Tally,
-    end: usize,
-}
-
-// The scripts from a place on, up to the next group.
-fn group(
+// The scripts up to the next group, and the text from it on.
+fn group<'a>(
     rt: &impl Print,
-    input: &[u8],
-    from: usize,
+    input: &'a [u8],
     cells: &mut [u32],
     work: &mut [u32],
     activities: &mut [f64],
     out: &mut [u32],
-) -> Counted
-    ensures { (from ≤ result.end) × Grouped (line_holds (length cells.old) (length work.old) (length activities.old) (length out.old)) input.now from result.end result.tally }
+) -> (Tally, &'a [u8])
+    ensures { Grouped (line_holds (length cells.old) (length work.old) (length activities.old) (length out.old)) input.now result.1.now result.0 }
 {
     let mut t = Tally {
         passed: 0,
         failed: 0,
     };
-    let mut at = from;
-    while at < input.len() {
-        let end = end_of(input, at, 10);
-        if text::starts(&input[at..end], b"group ") {
-            return Counted { tally: t, end: at };
+    let mut left = input;
+    while !left.is_empty() {
+        let (line, behind) = text::cut(left, b'\n');
+        if line.starts_with(b"group ") {
+            return (t, left);
         }
-        t = sum(t, script(rt, &input[at..end], cells, work, activities, out));
-        at = end + 1;
+        t = sum(t, script(rt, line, cells, work, activities, out));
+        left = behind.unwrap_or(&[]);
     }
-    Counted { tally: t, end: at }
+    (t, left)
 }
 
 // All groups, a line for each; and all of them counted.
@@ -381,14 +354,13 @@ fn groups(
         passed: 0,
         failed: 0,
     };
-    let mut at: usize = 0;
-    while at < input.len() {
-        let end = end_of(input, at, 10);
-        let g = group(rt, input, end + 1, cells, work, activities, out);
-        let t = g.tally;
-        show(rt, &input[at..end], t);
+    let mut left = input;
+    while !left.is_empty() {
+        let (title, behind) = text::cut(left, b'\n');
+        let (t, next) = group(rt, behind.unwrap_or(&[]), cells, work, activities, out);
+        show(rt, title, t);
         all = sum(all, t);
-        at = g.end;
+        left = next;
     }
     all
 }

@@ -1,17 +1,15 @@
 -- What an accepted script is: every row of the table, in numbers.
-use Rattle.std.specs.Prelude.{ℕ, ◌+◌, ◌*◌, ◌≤◌, ◌<◌, ◌≡◌, refl, true, List, ◌++◌, length, get_or, drop}
-use Rattle.std.proofs.Common.{sym, ap, ◌∙◌, subst, arith, length-take, leb-true, le-leb}
+use Rattle.std.specs.Prelude.{ℕ, ◌*◌, ◌≤◌, ◌<◌, ◌≡◌, refl, true, List, ◌++◌, length, get_or, drop}
+use Rattle.std.proofs.Common.{sym, ◌∙◌, subst, arith, length-take, leb-true, le-leb}
 use Rattle.model.specs.Limits as Limits
 use Rattle.model.specs.Limits.{header_cells}
-use Rattle.model.specs.Script.{Config, Record, clause, solve, clause_kind, solve_kind, known, most_count, limits, record_as, refused, accepted, header, header_rows, slice_rows, out_rows, records_of, out_needed, work_needed, read}
+use Rattle.model.specs.Script.{Config, Record, Row, clause, solve, clause_kind, solve_kind, known, most_count, limits, record_as, accepted, header, header_rows, slice_rows, out_rows, records_of, out_needed, work_needed, read}
 use Rattle.lawbase.specs.Basics.{Every, every_nil, every_cons}
-use Rattle.script.specs.declared.Judgement.{Judgement}
-use Rattle.script.specs.declared.Judgement.TheVariants as J
-use Rattle.script.specs.Judging.{reading_of, Hold, hold_append, hold_left, hold_right, hold_judge, judge_hold}
+use Rattle.script.specs.Judging.{Hold, hold_append, hold_left, hold_right, hold_judge, judge_hold}
 use Rattle.script.specs.Walk.{kind_at, count_at, first_at, lead_at, literals_at, behind_at, record_at, records_from, records_step, records_end, rows_from, walk_induction}
 use Rattle.script.specs.Kinds.{kind_cases}
 use Rattle.script.specs.Sound.{RecordIn, Readable, readable_here, readable_next}
-use Rattle.script.specs.Needs.{front_rows, back_rows}
+use Rattle.script.specs.Needs.{script_rows}
 use Rattle.script.specs.Front.{from_one, HeaderIn, header_in, read_parts}
 
 -- the literals of a record of that kind, of v variables
@@ -60,21 +58,21 @@ pub records_first : (s : List ℕ) → records_from s header_cells ≡ records_o
 unfolding records_from records_of
 records_first s = refl
 
-rows_accepted : (s : List ℕ) (work activities out : ℕ) → Hold (front_rows s work activities ++ back_rows (header s).variables s out) → Accepted s work activities out
+rows_accepted : (s : List ℕ) (work activities out : ℕ) → Hold (script_rows (header s) s work activities out) → Accepted s work activities out
 unfolding slice_rows out_rows
 rows_accepted s work activities out r =
     let v = (header s).variables in
-    let front = front_rows s work activities in
-    let back = back_rows v s out in
     let heads = header_rows (length s) (header s) in
     let slices = slice_rows (header s) work activities in
     let walk = rows_from v s header_cells in
     let outs = out_rows (out_needed v (records_from s header_cells)) out in
-    let slice = hold_right heads slices (hold_left front back r) in
-    let needed = hold_right walk outs (hold_right front back r) in
-    let whole : Readable v s header_cells = record { rows = hold_left walk outs (hold_right front back r) } in
+    let behind_heads = hold_right heads (slices ++ (walk ++ outs)) r in
+    let slice = hold_left slices (walk ++ outs) behind_heads in
+    let behind_slices = hold_right slices (walk ++ outs) behind_heads in
+    let needed = hold_right walk outs behind_slices in
+    let whole : Readable v s header_cells = record { rows = hold_left walk outs behind_slices } in
     record {
-      header_fits = header_in s (hold_left heads slices (hold_left front back r));
+      header_fits = header_in s (hold_left heads (slices ++ (walk ++ outs)) r);
       work_fits = leb-true (work_needed (header s)) work slice.0;
       activities_fit = leb-true v activities slice.1.0;
       readable = whole;
@@ -83,25 +81,19 @@ rows_accepted s work activities out r =
     }
 
 module _ (s : List ℕ) (work activities out : ℕ) where
+  abbrev rows : List Row
+  rows = script_rows (header s) s work activities out
+
   module _ (cfg : Config) (rs : List Record) (e : read s work activities out ≡ accepted cfg rs) where
-    rows_hold : Hold (front_rows s work activities ++ back_rows (header s).variables s out)
-    rows_hold =
-        judge_hold
-        (front_rows s work activities ++ back_rows (header s).variables s out)
-        (accepted (header s) (records_of s))
-        cfg
-        rs
-        (sym (read_parts s work activities out (header s).variables refl) ∙ e)
+    rows_hold : Hold rows
+    rows_hold = judge_hold rows (accepted (header s) (records_of s)) cfg rs (sym (read_parts s work activities out (header s) refl) ∙ e)
 
     pub accepted_of : Accepted s work activities out
     accepted_of = rows_accepted s work activities out rows_hold
 
     -- what is accepted is the script's own header and records
     accepted_same : accepted (header s) (records_of s) ≡ accepted cfg rs
-    accepted_same =
-        sym (hold_judge (front_rows s work activities ++ back_rows (header s).variables s out) rows_hold (accepted (header s) (records_of s)))
-        ∙ sym (read_parts s work activities out (header s).variables refl)
-        ∙ e
+    accepted_same = sym (hold_judge rows rows_hold (accepted (header s) (records_of s))) ∙ sym (read_parts s work activities out (header s) refl) ∙ e
 
     pub accepted_header : cfg ≡ header s
     accepted_header = let z = accepted_same in cc
@@ -109,15 +101,9 @@ module _ (s : List ℕ) (work activities out : ℕ) where
     pub accepted_records : rs ≡ records_of s
     accepted_records = let z = accepted_same in cc
 
-  -- the same from the code's answer
-  pub judged_accepted : (j : Judgement) → j ≡ J.Accepted → reading_of s j ≡ read s work activities out → Accepted s work activities out
-  judged_accepted j e h =
-      accepted_of (header s) (records_of s) (sym h ∙ ap (reading_of s) e)
-
-  -- a judgement that refuses
-  pub judged_refused : (j : Judgement) (number place : ℕ) → j ≡ J.Refused number place → reading_of s j ≡ read s work activities out
-      → read s work activities out ≡ refused number place
-  judged_refused j number place e h = sym h ∙ ap (reading_of s) e
+  -- the same from the code's Ok
+  pub judged_accepted : accepted (header s) (records_of s) ≡ read s work activities out → Accepted s work activities out
+  judged_accepted h = accepted_of (header s) (records_of s) (sym h)
 
 -- ---- and the other way: nothing is left out
 
@@ -155,7 +141,7 @@ accepted_read s work activities out h =
     let need = out_needed v (records_from s header_cells) in
     let outs = out_rows need out in
     let enough : need ≤ out = subst (λ (rs : List Record). out_needed v rs ≤ out) (sym (records_first s)) h.out_fits in
-    let front : Hold (heads ++ slices) =
-    hold_append heads slices (header_hold s h.header_fits) (le-leb (work_needed (header s)) work h.work_fits, (le-leb v activities h.activities_fit, tt)) in
+    let slice : Hold slices = (le-leb (work_needed (header s)) work h.work_fits, (le-leb v activities h.activities_fit, tt)) in
     let back : Hold (walk ++ outs) = hold_append walk outs h.readable.rows (le-leb need out enough, tt) in
-    read_parts s work activities out v refl ∙ hold_judge ((heads ++ slices) ++ (walk ++ outs)) (hold_append (heads ++ slices) (walk ++ outs) front back) k
+    let all : Hold (heads ++ (slices ++ (walk ++ outs))) = hold_append heads (slices ++ (walk ++ outs)) (header_hold s h.header_fits) (hold_append slices (walk ++ outs) slice back) in
+    read_parts s work activities out (header s) refl ∙ hold_judge (heads ++ (slices ++ (walk ++ outs))) all k

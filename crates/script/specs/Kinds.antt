@@ -1,12 +1,50 @@
 -- What holds of the kinds of records. Each law here has a case for each kind; the walk over the records goes by these laws.
-use Rattle.std.specs.Prelude.{ℕ, ◌+◌, ◌*◌, ◌≤◌, ◌<◌, min, ◌≡◌, ◌⊎◌, Bool, true, false, ◌||◌, List, length, eqb}
+use Rattle.std.specs.Prelude.{ℕ, ◌+◌, ◌*◌, ◌≤◌, min, ◌≡◌, ◌⊎◌, Bool, true, false, ◌||◌, List, [], ◌∷◌, length, eqb, Result, MatchResult}
 use Rattle.std.proofs.Math.Path.{refl}
-use Rattle.std.proofs.Common.{sym, subst, inl, inr, eqb-true, eq-eqb, ne_eqb}
+use Rattle.std.proofs.Common.{sym, subst, inl, inr, eqb-true, ne_eqb}
 use native.Mathlib.Omega.{arith}
 use Rattle.std.proofs.Math.Decide.{ℕ_discrete}
 use Rattle.std.proofs.Math.ListN.{get_or}
 use Rattle.model.specs.Limits as Limits
-use Rattle.model.specs.Script.{Record, clause, solve, clause_kind, solve_kind, known, lead, most_count, limits, trailing, cost, record_as, kind_of}
+use Rattle.refusal.specs.declared.Rule.{Rule}
+use Rattle.refusal.specs.declared.Rule.TheVariants.{BadRecord}
+use Rattle.script.specs.declared.Kind.{Kind}
+use Rattle.script.specs.declared.Kind.TheVariants.{Clause, Solve}
+use Rattle.script.specs.declared.Record as code
+use Rattle.script.specs.declared.Record.TheVariants as R
+use Rattle.model.specs.Script.{Record, clause, solve, clause_kind, solve_kind, known, most_count, limits, trailing, record_as}
+
+-- ---- as the code has them
+
+-- a kind's number in a script
+abbrev pub cell_of : Kind → ℕ
+cell_of Clause = clause_kind
+cell_of Solve = solve_kind
+
+-- the kind of this number, or row 7
+abbrev pub IsKindOf : ℕ → Result Kind Rule → Type 0
+IsKindOf cell r = MatchResult r (λ kind. cell_of kind ≡ cell) (λ rule. (rule ≡ BadRecord) × (known cell ≡ false))
+
+pub known_of : (kind : Kind) (cell : ℕ) → cell_of kind ≡ cell → known cell ≡ true
+unfolding known
+known_of Clause cell e = rw (← e) refl
+known_of Solve cell e = rw (← e) refl
+
+-- the definition's record
+abbrev pub record_of : code.Record → Record
+record_of (R.Clause literals) = clause literals.now
+record_of (R.Solve assumptions budget) = solve assumptions.now budget
+
+abbrev pub literals_of : Record → List ℕ
+literals_of (clause literals) = literals
+literals_of (solve assumptions budget) = assumptions
+
+-- the cells that a record takes: its kind, its count, its literals, and a solve's budget
+abbrev pub cells_of : Record → ℕ
+cells_of (clause literals) = 2 + length literals
+cells_of (solve assumptions budget) = 3 + length assumptions
+
+-- ----
 
 or_cases : (a b : Bool) → (a || b) ≡ true → (a ≡ true) ⊎ (b ≡ true)
 or_cases true b e = inl refl
@@ -21,35 +59,30 @@ kind_cases P c s kind h = go (or_cases (eqb kind clause_kind) (eqb kind solve_ki
     go (inl e) = subst P (sym (eqb-true kind clause_kind e)) c
     go (inr e) = subst P (sym (eqb-true kind solve_kind e)) s
 
--- the record made of a known kind is of that kind
-pub kind_as : (kind : ℕ) (before literals behind : List ℕ) → known kind ≡ true → kind_of (record_as kind before literals behind) ≡ kind
-unfolding record_as kind_of
-kind_as kind before literals behind = kind_cases (λ k. kind_of (record_as k before literals behind) ≡ k) refl refl kind
-
 -- ---- by the tests that the code makes
 
 module _ (kind : ℕ) where
   module _ (e : kind ≡ solve_kind) where
+    pub limits-solve : limits kind ≡ Limits.max_budget ∷ []
+    unfolding limits
+    limits-solve = rw e
+
     pub trailing-solve : trailing kind ≡ 1
     unfolding trailing limits
     trailing-solve = rw e
-
-    pub cost-solve : (v : ℕ) → cost kind v ≡ v + Limits.solve_besides
-    unfolding cost
-    cost-solve v = rw e
 
     pub record_solve : (before literals behind : List ℕ) → record_as kind before literals behind ≡ solve literals (get_or behind 0 0)
     unfolding record_as
     record_solve before literals behind = rw e
 
   module _ (e : kind ≡ solve_kind → ⊥) where
+    pub limits_other : limits kind ≡ []
+    unfolding limits
+    limits_other = rw (ne_eqb kind solve_kind e, limits)
+
     pub trailing_other : trailing kind ≡ 0
     unfolding trailing limits
     trailing_other = rw (ne_eqb kind solve_kind e, limits)
-
-    pub cost_other : (v : ℕ) → cost kind v ≡ 1
-    unfolding cost
-    cost_other v = rw (ne_eqb kind solve_kind e, cost)
 
     pub record_other : (before literals behind : List ℕ) → record_as kind before literals behind ≡ clause literals
     unfolding record_as
@@ -65,27 +98,7 @@ module _ (kind : ℕ) where
     unfolding most_count
     count_other e = rw (ne_eqb kind clause_kind e, most_count)
 
-  pub trailing_is : trailing kind ≡ length (limits kind)
-  unfolding trailing
-  trailing_is = refl
-
-  -- every cell behind the literals has a solve's limit
-  pub limit_budget : (i : ℕ) → i < trailing kind → get_or (limits kind) i 0 ≡ Limits.max_budget
-  unfolding limits
-  limit_budget i h = go (ℕ_discrete kind solve_kind)
-    where
-      first : (j : ℕ) → j ≡ 0 → get_or (limits solve_kind) j 0 ≡ Limits.max_budget
-      first j z = rw z
-
-      go : Dec (kind ≡ solve_kind) → get_or (limits kind) i 0 ≡ Limits.max_budget
-      go (yes e) = rw e (first i (omega (arith, h, trailing-solve e)))
-      go (no n) = absurd (omega (arith, h, trailing_other n))
-
   -- ---- bounds, so that places can be counted
-
-  pub lead_le : lead kind ≤ 2
-  unfolding lead
-  lead_le = omega arith
 
   pub trailing_le : trailing kind ≤ 2
   trailing_le = go (ℕ_discrete kind solve_kind)

@@ -6,4 +6,4 @@ pub mod Needs
 pub mod Rows
 pub mod Front
 pub mod Accepted
-pub mod Answers
+pub mod Wanted

@@ -1,94 +1,67 @@
 -- The judgement of each part of the rows, by the facts that the code tests.
-use Rattle.std.specs.Prelude.{ℕ, ◌+◌, ◌*◌, ◌-◌, ◌≤◌, ◌<◌, ◌≡◌, refl, true, false, List, length, get_or, leb, ltb}
-use Rattle.std.proofs.Common.{sym, ap, ◌∙◌, subst, arith, leb-true, le-leb, lt-ltb, le-ltb}
-use Rattle.std.proofs.lemmas.Bool.{lt-leb}
-use Rattle.model.specs.Script.{known, lead, most_count, limits, literal_rows}
-use Rattle.script.specs.declared.Judgement.{Judgement}
-use Rattle.script.specs.declared.Judgement.TheVariants.{Refused, Accepted}
-use Rattle.script.specs.Judging.{Judged, Same, Hold, judge-append, row_holds, done, pass, stop, stop_at, refused_first}
-use Rattle.script.specs.Walk.{kind_at, count_at, size_at, first_at, end_at, literals_at, next_at, part, kind_rows, count_rows, literals_rows, last_rows, literal_step, literal_end, literals-part, limits_from, limit_start, limit_step, limit_end, rows_at, rows_from, rows_step, rows_end}
+use Rattle.std.specs.Prelude.{ℕ, ◌+◌, ◌*◌, ◌-◌, ◌≤◌, ◌<◌, ◌≡◌, List, [], ◌∷◌, ◌++◌, length, get_or, drop, leb, ltb, Result, Ok, Err}
+use Rattle.std.proofs.Common.{sym, subst, ◌∙◌, arith, drop-cons, drop_of_length-le}
+use Rattle.std.proofs.Math.Numerals.{add-one}
+use Rattle.refusal.specs.declared.Refusal.{Refusal}
+use Rattle.model.specs.Script.{Record, Row, row, known, most_count, trailing, literal_rows}
+use Rattle.script.specs.Judging.{Judged, Same, judge-append, done, refused_first}
+use Rattle.script.specs.Walk.{kind_at, literals_at, record_at, first_is, end_at, head_rows, head_is, literals_rows, last_rows, budget_rows, last_is, next_at, rows_at, rows_from, rows_step, rows_end}
 
--- ---- a record's kind and count
+-- a part that holds passes on what is behind it
+pub passed_part : {A : Type 0} {t : A} (xs ys : List Row) → Judged (Ok t) xs → Same (xs ++ ys) ys
+passed_part xs ys h k = judge-append xs ys k ∙ sym (h.same _)
 
-module _ (s : List ℕ) (at : ℕ) where
-  abbrev kind : ℕ
-  kind = kind_at s at
+-- ---- the rows of a kind and a count, as the code has them
 
-  abbrev left : ℕ
-  left = length s - (at + 1)
+module _ (v : ℕ) (s : List ℕ) (at : ℕ) (h : at < length s) where
+  pub head_judged : {A : Type 0} {j : Result A Refusal} (most behind : ℕ) → most ≡ most_count (kind_at s at) v → behind ≡ trailing (kind_at s at)
+      → Judged j
+      (row 7 (known (kind_at s at)) at
+      ∷ row 8 (leb (at + 2) (length s)) (length s)
+      ∷ row 10 (leb (get_or s (at + 1) 0) most) (at + 1)
+      ∷ row 8 (leb (get_or s (at + 1) 0 + behind) (length s - (at + 2))) (length s)
+      ∷ [])
+      → Judged j (head_rows v s at)
+  head_judged {j = j} most behind p q g = subst (Judged j) (sym (head_is v s at h)) (rw (← p, ← q) g)
 
-  pub kind_unknown : known kind ≡ false → Judged (Refused 7 at) (kind_rows s at)
-  kind_unknown k = stop k
+-- ---- literals, from the i-th on
 
-  pub kind_last : known kind ≡ true → length s < first_at s at → Judged (Refused 8 (length s)) (kind_rows s at)
-  kind_last k h = pass k (stop (lt-leb (lead kind + 1) left (omega arith)))
+module _ (v at : ℕ) (ls : List ℕ) where
+  abbrev pub literals_from : ℕ → List Row
+  literals_from i = literal_rows v (at + i) (drop i ls)
 
-  pub kind_ok : known kind ≡ true → first_at s at ≤ length s → Judged Accepted (kind_rows s at)
-  kind_ok k h = pass k (pass (le-leb (lead kind + 1) left (omega arith)) done)
+  pub literals_start : Same (literal_rows v at ls) (literals_from 0)
+  literals_start k = let z : at + 0 ≡ at = omega arith in rw z
 
-  -- so there is a count
-  pub kind_head : Hold (kind_rows s at) → first_at s at ≤ length s
-  kind_head r = omega (arith, leb-true (lead kind + 1) left r.1.0)
+  pub literal_next : (i : ℕ) → i < length ls → literals_from i ≡ row 9 (ltb (get_or ls i 0) (2 * v)) (at + i) ∷ literals_from (i + 1)
+  unfolding literal_rows
+  literal_next i h =
+      let here : drop i ls ≡ get_or ls i 0 ∷ drop (i + 1) ls = rw add-one (drop-cons ls i 0 h) in
+      let place : at + i + 1 ≡ at + (i + 1) = omega arith in
+      rw (here, place)
 
-  module _ (v : ℕ) where
-    abbrev most : ℕ
-    most = most_count kind v
+  pub literals_end : (i : ℕ) → length ls ≤ i → literals_from i ≡ []
+  unfolding literal_rows
+  literals_end i h = rw (drop_of_length-le ls h)
 
-    pub count_stop : most < count_at s at → (place : ℕ) → place ≡ at + 1 + lead kind → Judged (Refused 10 place) (count_rows v s at)
-    count_stop g place p = stop_at p (lt-leb (count_at s at) most g)
+-- ---- the rows of a record's literals, and of what is behind them
 
-    pub count_past : count_at s at ≤ most → length s < next_at s at → first_at s at ≤ length s → Judged (Refused 8 (length s)) (count_rows v s at)
-    count_past g l h = pass (le-leb (count_at s at) most g) (stop (lt-leb (size_at s at) (length s - first_at s at) (omega arith)))
+module _ (v : ℕ) (s : List ℕ) (at : ℕ) where
+  pub literals_judged : {A : Type 0} {j : Result A Refusal} (ls : List ℕ) → ls ≡ literals_at s at → Judged j (literal_rows v (at + 2) ls) → Judged j (literals_rows v s at)
+  literals_judged {j = j} ls e h =
+      subst (λ (f : ℕ). Judged j (literal_rows v f (literals_at s at))) (sym (first_is s at)) (subst (λ (x : List ℕ). Judged j (literal_rows v (at + 2) x)) e h)
 
-    pub count_ok : count_at s at ≤ most → next_at s at ≤ length s → Judged Accepted (count_rows v s at)
-    count_ok g l = pass (le-leb (count_at s at) most g) (pass (le-leb (size_at s at) (length s - first_at s at) (omega arith)) done)
-
--- ---- its literals, from the cell a up to e
-
-module _ (v : ℕ) (s : List ℕ) (a e : ℕ) where
-  pub literal_stop : a < e → e ≤ length s → 2 * v ≤ get_or s a 0 → Judged (Refused 9 a) (literal_rows v a (part s a e))
-  literal_stop h g b = rw (literal_step v s a e h g) (stop (le-ltb (get_or s a 0) (2 * v) b))
-
-  pub literal_more : a < e → e ≤ length s → get_or s a 0 < 2 * v → Same (literal_rows v a (part s a e)) (literal_rows v (a + 1) (part s (a + 1) e))
-  literal_more h g b k = rw (literal_step v s a e h g) (row_holds 9 (ltb (get_or s a 0) (2 * v)) a _ (lt-ltb (get_or s a 0) (2 * v) b) k)
-
-  pub literal_none : e ≤ a → Judged Accepted (literal_rows v a (part s a e))
-  literal_none h = rw (literal_end v s a e h) done
-
--- the literals as the code has them, from their first cell up to the one behind them
-pub literals_judged : (v : ℕ) (s : List ℕ) (at f e : ℕ) {j : Judgement} → f ≡ first_at s at → e ≡ end_at s at → Judged j (literal_rows v f (part s f e)) → Judged j (literals_rows v s at)
-literals_judged v s at f e {j} q p h =
-    subst (λ (ls : List ℕ). Judged j (literal_rows v (first_at s at) ls)) (literals-part s at)
-    (subst (λ (x : ℕ). Judged j (literal_rows v (first_at s at) (part s (first_at s at) x))) p (subst (λ (x : ℕ). Judged j (literal_rows v x (part s x e))) q h))
-
--- ---- the cells behind them, from the i-th on
-
-module _ (most s : List ℕ) (e : ℕ) where
-  module _ (i : ℕ) where
-    pub limit_stop : i < length most → get_or most i 0 < get_or s (e + i) 0 → Judged (Refused 11 (e + i)) (limits_from most s e i)
-    limit_stop h g = rw (limit_step most s e i h) (stop (lt-leb (get_or s (e + i) 0) (get_or most i 0) g))
-
-    pub limit_more : i < length most → get_or s (e + i) 0 ≤ get_or most i 0 → Same (limits_from most s e i) (limits_from most s e (i + 1))
-    limit_more h g k = rw (limit_step most s e i h) (row_holds 11 (leb (get_or s (e + i) 0) (get_or most i 0)) (e + i) _ (le-leb (get_or s (e + i) 0) (get_or most i 0) g) k)
-
-    pub limit_none : length most ≤ i → Judged Accepted (limits_from most s e i)
-    limit_none h = rw (limit_end most s e i h) done
-
--- as the code has them
-pub limits_start : (s : List ℕ) (at kind e : ℕ) → kind ≡ kind_at s at → e ≡ end_at s at → Same (last_rows s at) (limits_from (limits kind) s e 0)
-limits_start s at kind e p q k = rw (p, q, limit_start (limits (kind_at s at)) s (end_at s at))
+  pub budget_judged : {A : Type 0} {j : Result A Refusal} (r : Record) (e : ℕ) → r ≡ record_at s at → e ≡ end_at s at → Judged j (budget_rows r e) → Judged j (last_rows s at)
+  budget_judged {j = j} r e p q h = subst (Judged j) (sym (last_is s at)) (rw (← p, ← q) h)
 
 -- ---- the walk over the records
 
 module _ (v : ℕ) (s : List ℕ) (at : ℕ) where
-  pub walk_stop : {j : Judgement} {number place : ℕ} → at < length s → j ≡ Refused number place → Judged j (rows_at v s at) → Judged (Refused number place) (rows_from v s at)
-  walk_stop h e g = rw (rows_step v s at h) (refused_first (rows_at v s at) (rows_from v s (next_at s at)) e g)
+  pub walk_stop : {A : Type 0} {e : Refusal} → at < length s → Judged {A = A} (Err e) (rows_at v s at) → Judged {A = A} (Err e) (rows_from v s at)
+  walk_stop h g = rw (rows_step v s at h) (refused_first (rows_at v s at) (rows_from v s (next_at s at)) g)
 
-  pub walk_more : {j : Judgement} → at < length s → j ≡ Accepted → Judged j (rows_at v s at) → (next : ℕ) → next ≡ next_at s at → Same (rows_from v s at) (rows_from v s next)
-  walk_more {j} h e g next p k =
-      let a : Judged Accepted (rows_at v s at) = subst (λ (x : Judgement). Judged x (rows_at v s at)) e g in
-      let rest = rows_from v s (next_at s at) in
-      rw (rows_step v s at h, p) (judge-append (rows_at v s at) rest k ∙ sym (a.same _))
+  pub walk_more : {A : Type 0} {t : A} → at < length s → Judged (Ok t) (rows_at v s at) → (next : ℕ) → next ≡ next_at s at → Same (rows_from v s at) (rows_from v s next)
+  walk_more h g next p k = rw (rows_step v s at h, p) (passed_part (rows_at v s at) (rows_from v s (next_at s at)) g k)
 
-  pub walk_end : length s ≤ at → Judged Accepted (rows_from v s at)
+  pub walk_end : {A : Type 0} {t : A} → length s ≤ at → Judged (Ok t) (rows_from v s at)
   walk_end h = rw (rows_end v s at h) done

@@ -1,10 +1,10 @@
 -- What the rows say of a record whose rows hold, in numbers; and the walk over records that are all so.
 use Rattle.std.specs.Prelude.{ℕ, zero, suc, ◌+◌, ◌*◌, ◌-◌, ◌≤◌, ◌<◌, ◌≡◌, refl, Bool, true, false, ◌&&◌, List, [], ◌∷◌, length, get_or, drop}
-use Rattle.std.proofs.Common.{sym, subst, arith, not-suc-le-zero, le_of_suc-le-suc, get_or-drop, leb-true, ltb-true}
+use Rattle.std.proofs.Common.{subst, arith, not-suc-le-zero, le_of_suc-le-suc, get_or-drop, leb-true, ltb-true}
 use Rattle.std.proofs.Math.Decide.{dec_lt}
 use Rattle.model.specs.Script.{known, lead, most_count, limits, trailing, literal_rows, limit_rows}
 use Rattle.lawbase.specs.Basics.{Every, every_nil, every_cons}
-use Rattle.script.specs.Judging.{Hold, hold_left, hold_right}
+use Rattle.script.specs.Judging.{Hold, Hold-prop, hold_left, hold_right}
 use Rattle.script.specs.Walk.{kind_at, count_at, size_at, first_at, end_at, literals_at, behind_at, behind_cell, behind_none, next_at, RecordAt, head_rows, literals_rows, last_rows, body_rows, rows_at, rows_from, rows_step}
 
 pub and_left : (a b : Bool) → (a && b) ≡ true → a ≡ true
@@ -26,6 +26,9 @@ pub record RecordIn (v : ℕ) (s : List ℕ) (at : ℕ) : Type 0 where
 -- every row of the records from a cell on holds
 pub record Readable (v : ℕ) (s : List ℕ) (at : ℕ) : Type 0 where
   pub rows : Hold (rows_from v s at)
+
+pub Readable-prop : (v : ℕ) (s : List ℕ) (at : ℕ) → IsProp (Readable v s at)
+Readable-prop v s at x y = λ i. record { rows = Hold-prop (rows_from v s at) x.rows y.rows i }
 
 pub whole_of : (v : ℕ) (s : List ℕ) (at : ℕ) → at < length s → Hold (head_rows v s at) → RecordAt s at
 whole_of v s at h r =

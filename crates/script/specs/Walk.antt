@@ -1,13 +1,17 @@
 -- The records of a script by the cell at which each begins: what stands there, the rows of the table for it, and where the next one begins.
-use Rattle.std.specs.Prelude.{ℕ, zero, suc, ◌+◌, ◌*◌, ◌-◌, ◌≤◌, ◌<◌, ◌≡◌, refl, List, [], ◌∷◌, ◌++◌, length, take, leb, ltb}
+use Rattle.std.specs.Prelude.{ℕ, zero, suc, ◌+◌, ◌-◌, ◌≤◌, ◌<◌, ◌≡◌, refl, List, [], ◌∷◌, ◌++◌, length, take, leb}
 use Rattle.std.proofs.Math.Path.{ap}
-use Rattle.std.proofs.Common.{ap₂, ◌∙◌, not-suc-le-zero, length-take, length-drop, drop_of_length-le, drop-cons, get_or-take}
+use Rattle.std.proofs.Common.{◌∙◌, not-suc-le-zero, length-take, length-drop, drop_of_length-le, drop-cons, get_or-take}
 use native.Mathlib.Omega.{arith}
 use Rattle.std.proofs.Math.Numerals.{add-one}
-use Rattle.std.proofs.Math.Decide.{dec_lt}
+use Rattle.std.proofs.Math.Decide.{dec_lt, ℕ_discrete}
+use Rattle.std.proofs.Common.{sym, le-leb}
+use Rattle.std.proofs.lemmas.Bool.{lt-leb}
 use Rattle.std.proofs.Math.ListN.{get_or, drop, get_or-eq_default}
 use Rattle.std.proofs.Math.Seq.{drop-drop, get_or-drop}
-use Rattle.model.specs.Script.{Record, known, lead, most_count, limits, trailing, record_as, records, Row, row, literal_rows, limit_rows, record_rows}
+use Rattle.model.specs.Limits as Limits
+use Rattle.model.specs.Script.{Record, clause, solve, solve_kind, known, lead, most_count, limits, trailing, record_as, records, Row, row, literal_rows, limit_rows, record_rows}
+use Rattle.script.specs.Kinds.{literals_of, cells_of, limits-solve, limits_other, trailing-solve, trailing_other, record_solve, record_other}
 
 -- ---- the record that begins at a cell
 
@@ -174,60 +178,82 @@ rows_end v s at h = rw (drop_of_length-le s h) (none (length s) (length s))
     none n zero = refl
     none n (suc t) = refl
 
--- ---- literals
+-- ---- the rows of a record by what the code reads: no kind has a cell before the count
 
--- the cells from a up to e
-abbrev pub part : List ℕ → ℕ → ℕ → List ℕ
-part s a e = take (e - a) (drop a s)
+pub first_is : (s : List ℕ) (at : ℕ) → first_at s at ≡ at + 2
+unfolding lead
+first_is s at = omega arith
 
-part_step : (s : List ℕ) (a e : ℕ) → a < e → e ≤ length s → part s a e ≡ get_or s a 0 ∷ part s (a + 1) e
-part_step s a e h g =
-    let size : e - a ≡ suc (e - (a + 1)) = omega arith in
-    let here : drop a s ≡ get_or s a 0 ∷ drop (a + 1) s = rw add-one (drop-cons s a 0 (omega arith)) in
-    rw (size, here)
+same_test : (n at : ℕ) → leb 1 (n - (at + 1)) ≡ leb (at + 2) n
+same_test n at = go (dec_lt n (at + 2))
+  where
+    go : Dec (n < at + 2) → leb 1 (n - (at + 1)) ≡ leb (at + 2) n
+    go (yes h) = lt-leb 1 (n - (at + 1)) (omega arith) ∙ sym (lt-leb (at + 2) n h)
+    go (no h) = le-leb 1 (n - (at + 1)) (omega arith) ∙ sym (le-leb (at + 2) n (omega arith))
 
-pub literal_step : (v : ℕ) (s : List ℕ) (a e : ℕ) → a < e → e ≤ length s
-    → literal_rows v a (part s a e) ≡ row 9 (ltb (get_or s a 0) (2 * v)) a ∷ literal_rows v (a + 1) (part s (a + 1) e)
-unfolding literal_rows
-literal_step v s a e h g = rw (part_step s a e h g)
+-- the table's tests of places, as the code has them
+pub head_is : (v : ℕ) (s : List ℕ) (at : ℕ) → at < length s
+    → head_rows v s at
+    ≡ row 7 (known (kind_at s at)) at
+    ∷ row 8 (leb (at + 2) (length s)) (length s)
+    ∷ row 10 (leb (get_or s (at + 1) 0) (most_count (kind_at s at) v)) (at + 1)
+    ∷ row 8 (leb (get_or s (at + 1) 0 + trailing (kind_at s at)) (length s - (at + 2))) (length s)
+    ∷ []
+unfolding lead
+head_is v s at h =
+    let e : leb 1 (length s - (at + 1)) ≡ leb (at + 2) (length s) = same_test (length s) at in
+    let one : at + 1 + 0 ≡ at + 1 = omega arith in
+    let two : at + 2 + 0 ≡ at + 2 = omega arith in
+    rw (e, one, two)
 
-pub literal_end : (v : ℕ) (s : List ℕ) (a e : ℕ) → e ≤ a → literal_rows v a (part s a e) ≡ []
-unfolding literal_rows
-literal_end v s a e h =
-    let size : e - a ≡ 0 = omega arith in
-    rw size
+-- the row of a budget at the cell e
+abbrev pub budget_rows : Record → ℕ → List Row
+budget_rows (clause literals) e = []
+budget_rows (solve assumptions budget) e = row 11 (leb budget Limits.max_budget) e ∷ []
 
--- a record's literals as a part of the script
-pub literals-part : (s : List ℕ) (at : ℕ) → part s (first_at s at) (end_at s at) ≡ literals_at s at
-literals-part s at =
-    let size : end_at s at - first_at s at ≡ count_at s at = omega arith in
-    rw size
+module _ (s : List ℕ) (at : ℕ) where
+  pub literals-record : literals_of (record_at s at) ≡ literals_at s at
+  literals-record = go (ℕ_discrete (kind_at s at) solve_kind)
+    where
+      go : Dec (kind_at s at ≡ solve_kind) → literals_of (record_at s at) ≡ literals_at s at
+      go (yes e) = ap literals_of (record_solve (kind_at s at) e (lead_at s at) (literals_at s at) (behind_at s at))
+      go (no n) = ap literals_of (record_other (kind_at s at) n (lead_at s at) (literals_at s at) (behind_at s at))
 
--- ---- the cells behind the literals
-
--- from the i-th of the cells that begin at e on
-abbrev pub limits_from : List ℕ → List ℕ → ℕ → ℕ → List Row
-limits_from most s e i = limit_rows (e + i) (drop i most) (drop (e + i) s)
-
-module _ (most s : List ℕ) (e : ℕ) where
-  pub limit_start : limits_from most s e 0 ≡ limit_rows e most (drop e s)
-  limit_start =
-      let z : e + 0 ≡ e = omega arith in
-      rw z
-
-  pub limit_step : (i : ℕ) → i < length most → limits_from most s e i ≡ row 11 (leb (get_or s (e + i) 0) (get_or most i 0)) (e + i) ∷ limits_from most s e (i + 1)
+  pub last_is : last_rows s at ≡ budget_rows (record_at s at) (end_at s at)
   unfolding limit_rows
-  limit_step i h =
-      let here : drop i most ≡ get_or most i 0 ∷ drop (i + 1) most = rw add-one (drop-cons most i 0 h) in
-      let same : e + i + 0 ≡ e + i = omega arith in
-      let place : e + i + 1 ≡ e + (i + 1) = omega arith in
-      let cell : get_or (drop (e + i) s) 0 0 ≡ get_or s (e + i) 0 = get_or-drop (e + i) s 0 0 ∙ ap (λ (j : ℕ). get_or s j 0) same in
-      let rest : drop 1 (drop (e + i) s) ≡ drop (e + (i + 1)) s = drop-drop 1 (e + i) s ∙ ap (λ (j : ℕ). drop j s) place in
-      rw (here, cell, rest, place)
+  last_is = go (ℕ_discrete (kind_at s at) solve_kind)
+    where
+      go : Dec (kind_at s at ≡ solve_kind) → last_rows s at ≡ budget_rows (record_at s at) (end_at s at)
+      go (yes h) =
+          let cell : get_or (drop (end_at s at) s) 0 0 ≡ get_or (behind_at s at) 0 0 =
+          sym (get_or-take (trailing (kind_at s at)) (drop (end_at s at) s) 0 0 (omega (arith, trailing-solve (kind_at s at) h))) in
+          ap (λ (most : List ℕ). limit_rows (end_at s at) most (drop (end_at s at) s)) (limits-solve (kind_at s at) h)
+          ∙ ap (λ (b : ℕ). row 11 (leb b Limits.max_budget) (end_at s at) ∷ []) cell
+          ∙ sym (ap (λ (r : Record). budget_rows r (end_at s at)) (record_solve (kind_at s at) h (lead_at s at) (literals_at s at) (behind_at s at)))
+      go (no h) =
+          ap (λ (most : List ℕ). limit_rows (end_at s at) most (drop (end_at s at) s)) (limits_other (kind_at s at) h)
+          ∙ sym (ap (λ (r : Record). budget_rows r (end_at s at)) (record_other (kind_at s at) h (lead_at s at) (literals_at s at) (behind_at s at)))
 
-  pub limit_end : (i : ℕ) → length most ≤ i → limits_from most s e i ≡ []
-  unfolding limit_rows
-  limit_end i h = rw (drop_of_length-le most h)
+  all_literals : RecordAt s at → length (literals_at s at) ≡ count_at s at
+  all_literals r = omega (arith, length-take (count_at s at) (drop (first_at s at) s), length-drop (first_at s at) s, r.body)
+
+  pub end-literals : RecordAt s at → at + 2 + length (literals_at s at) ≡ end_at s at
+  end-literals r = omega (arith, all_literals r, first_is s at)
+
+  -- a record that is all there takes the cells up to the next one
+  pub cells-record : RecordAt s at → at + cells_of (record_at s at) ≡ next_at s at
+  cells-record r = go (ℕ_discrete (kind_at s at) solve_kind)
+    where
+      all : length (literals_at s at) ≡ count_at s at
+      all = all_literals r
+
+      go : Dec (kind_at s at ≡ solve_kind) → at + cells_of (record_at s at) ≡ next_at s at
+      go (yes e) =
+          let c = ap cells_of (record_solve (kind_at s at) e (lead_at s at) (literals_at s at) (behind_at s at)) in
+          omega (arith, c, all, trailing-solve (kind_at s at) e, first_is s at)
+      go (no n) =
+          let c = ap cells_of (record_other (kind_at s at) n (lead_at s at) (literals_at s at) (behind_at s at)) in
+          omega (arith, c, all, trailing_other (kind_at s at) n, first_is s at)
 
 -- a cell behind the literals; there is no other
 module _ (s : List ℕ) (at : ℕ) where
@@ -236,6 +262,36 @@ module _ (s : List ℕ) (at : ℕ) where
 
   pub behind_none : (i : ℕ) → trailing (kind_at s at) ≤ i → get_or (behind_at s at) i 0 ≡ 0
   behind_none i h = get_or-eq_default (behind_at s at) 0 (omega (arith, length-take (trailing (kind_at s at)) (drop (end_at s at) s)))
+
+-- ---- the record as the code reads it
+
+module _ (s : List ℕ) (at : ℕ) where
+  count_is : count_at s at ≡ get_or s (at + 1) 0
+  unfolding lead
+  count_is = let place : at + 1 + 0 ≡ at + 1 = omega arith in ap (λ (i : ℕ). get_or s i 0) place
+
+  pub whole_read : RecordAt s at → at + 2 + get_or s (at + 1) 0 + trailing (kind_at s at) ≤ length s
+  whole_read r = omega (arith, r.body, first_is s at, count_is)
+
+  end_is : at + 2 + get_or s (at + 1) 0 ≡ end_at s at
+  end_is = omega (arith, first_is s at, count_is)
+
+  literals_read : take (at + 2 + get_or s (at + 1) 0 - (at + 2)) (drop (at + 2) s) ≡ literals_at s at
+  literals_read =
+      let size : at + 2 + get_or s (at + 1) 0 - (at + 2) ≡ count_at s at = omega (arith, count_is) in
+      ap (λ (n : ℕ). take n (drop (at + 2) s)) size ∙ ap (λ (f : ℕ). take (count_at s at) (drop f s)) (sym (first_is s at))
+
+  pub solve_read : kind_at s at ≡ solve_kind
+      → solve (take (at + 2 + get_or s (at + 1) 0 - (at + 2)) (drop (at + 2) s)) (get_or s (at + 2 + get_or s (at + 1) 0) 0) ≡ record_at s at
+  solve_read e =
+      let cell : get_or s (at + 2 + get_or s (at + 1) 0) 0 ≡ get_or (behind_at s at) 0 0 =
+      ap (λ (i : ℕ). get_or s i 0) (omega (arith, end_is)) ∙ sym (behind_cell s at 0 (omega (arith, trailing-solve (kind_at s at) e))) in
+      ap (λ (ls : List ℕ). solve ls (get_or s (at + 2 + get_or s (at + 1) 0) 0)) literals_read
+      ∙ ap (λ (b : ℕ). solve (literals_at s at) b) cell
+      ∙ sym (record_solve (kind_at s at) e (lead_at s at) (literals_at s at) (behind_at s at))
+
+  pub clause_read : (kind_at s at ≡ solve_kind → ⊥) → clause (take (at + 2 + get_or s (at + 1) 0 - (at + 2)) (drop (at + 2) s)) ≡ record_at s at
+  clause_read n = ap clause literals_read ∙ sym (record_other (kind_at s at) n (lead_at s at) (literals_at s at) (behind_at s at))
 
 -- ---- what holds at the end, and before each record where it holds behind it, holds at every cell
 

@@ -1,19 +1,20 @@
 // Judges scripts, one for each number of the table and some that are accepted, and writes a line for each: the number and the place, or 'accepted'.
 #![tactic(auto)]
 
-use script::Judgement;
+use refusal::Refusal;
+use script::Script;
 
 // What cannot be written is left out: the gate then finds that it is missing.
-fn show(rt: &impl Print, j: Judgement) {
-    let _ = match j {
-        Judgement::Refused { number, place } => println!(rt; "{number} {place}"),
-        Judgement::Accepted => println!(rt; "accepted"),
+fn show(rt: &impl Print, judged: Result<Script, Refusal>) {
+    let _ = match judged {
+        Err(refusal) => println!(rt; "{} {}", refusal.rule.number(), refusal.place),
+        Ok(_) => println!(rt; "accepted"),
     };
 }
 
 // With slices that hold all that a script of 2 variables, 8 clauses and 64 literals needs, and an out of 8 cells.
 fn show_small(rt: &impl Print, script: &[u32]) {
-    show(rt, script::judge(script, 256, 2, 8));
+    show(rt, Script::read(script, 256, 2, 8));
 }
 
 fn headers(rt: &impl Print) {
@@ -31,7 +32,7 @@ fn headers(rt: &impl Print) {
     show_small(rt, &[2, 8, 64, 2, 2, 0]);
     // 5: work, and 6: activities
     show_small(rt, &[2, 9, 64, 2, 2, 100]);
-    show(rt, script::judge(&[2, 8, 64, 2, 2, 100], 256, 1, 8));
+    show(rt, Script::read(&[2, 8, 64, 2, 2, 100], 256, 1, 8));
 }
 
 fn records(rt: &impl Print) {

@@ -8,12 +8,13 @@ use Rattle.std.proofs.Math.ListN.{length, get_or, take, drop, length-append, len
 use Rattle.std.proofs.Math.Seq.{take_at, drop_at}
 use Rattle.lawbase.specs.Basics.{Every, shrink}
 use Rattle.text.specs.Bytes.{bytes}
+use Rattle.text.specs.Kinds.{cell_of}
 use Rattle.text.specs.Answers.{verdict, numbered}
 use Rattle.text.specs.PrintBound.{verdict-length, numbered-length}
 use Rattle.text.specs.WriteLaws.{Written, joined, written_as, written_none, written_long, written_in}
 use Rattle.smallbooks.specs.declared.Found.{Found}
 use Rattle.smallbooks.specs.declared.Score.{Score}
-use Rattle.smallbooks.specs.declared.Told.{Told}
+use Rattle.smallbooks.specs.Tell.{Told, told}
 use Rattle.smallbooks.specs.Choose.{combinations, of_sizes}
 use Rattle.smallbooks.proofs.Choose.{sizes_split, sizes_last}
 use Rattle.smallbooks.specs.Books.{record_of, records_of, solve_record, fresh, printed, all_printed}
@@ -25,7 +26,7 @@ use Rattle.smallbooks.specs.Tell.{longest, conflicts_of, Tells, runs, run_of, Fr
 pub printed-length : (f : Found) → f.conflicts ≤ 4294967295 → length (printed f) ≤ longest
 unfolding printed
 printed-length f h =
-    omega (arith, length-append (verdict f.answer) (numbered (bytes "conflicts=") f.conflicts), verdict-length f.answer, numbered-length (bytes "conflicts=") f.conflicts h)
+    omega (arith, length-append (verdict (cell_of f.verdict)) (numbered (bytes "conflicts=") f.conflicts), verdict-length (cell_of f.verdict), numbered-length (bytes "conflicts=") f.conflicts h)
 
 conflicts_append : (fs gs : List Found) → conflicts_of (fs ++ gs) ≡ conflicts_of fs ++ conflicts_of gs
 conflicts_append [] gs = refl
@@ -43,7 +44,7 @@ unfolding all_printed scores
 tells_none text t h = record { lines = written_none text t.at h; score = refl; short = omega arith }
 
 pub tells_one : {text : List ℕ} {t : Told} {text' : List ℕ} {at : ℕ} {s : Score} {f : Found} → length (printed f) ≤ longest
-    → Written text t.at (printed f) text' at → s ≡ one_more t.score f.conflicts → Tells text t (f ∷ []) text' (record { at = at; score = s })
+    → Written text t.at (printed f) text' at → s ≡ one_more t.score f.conflicts → Tells text t (f ∷ []) text' (told at s)
 unfolding all_printed scores
 tells_one {text} {t} {text'} {at} {s} {f} h w e = record {
   lines = written_as (printed f ++ []) w (sym (append-nil (printed f)));
@@ -173,10 +174,10 @@ sets_more (suc k) c cs h =
 
 module _ {table : List ℕ} {from left : ℕ} {script : List ℕ} {used n : ℕ} {text : List ℕ} {t : Told} (p : Choosing table from left script used n text t) where
   -- a set whose clauses are all chosen
-  pub room_solve : left ≡ 0 → (used + 3 ≤ length script) × (n ≤ 3) × (t.at ≤ length text) × (t.score.count < 4294967295)
+  pub room_solve : left ≡ 0 → (used + 3 ≤ length script) × (n ≤ 3) × (t.score.count < 4294967295)
   room_solve z =
       let m = p.room in
-      (omega (arith, m.cells), omega (arith, m.clauses), m.place, omega (arith, m.sets, sets_one left p.rules z))
+      (omega (arith, m.cells), omega (arith, m.clauses), omega (arith, m.sets, sets_one left p.rules z))
 
   pub chose_here : {script' text' : List ℕ} {r : Told} → left ≡ 0 → take used script' ≡ take used script
       → Tells text t (fresh n (take used script ++ solve_record) ∷ []) text' r → Chose table from left script used n text t script' text' r
@@ -246,8 +247,8 @@ module _ {table : List ℕ} {from left : ℕ} {script : List ℕ} {used n : ℕ}
             sym (take-take used end script'' (omega (arith, end_is))) ∙ ap (take used) (q.kept ∙ written_through w fits)
             ∙ take_at (take used script) (record_of (clause_at table from)) used (length-take-le used script (omega (arith, p.room.cells)))
 
-        told : Tells text t (runs (take end script') (n + 1) (combinations (left - 1) here_front.rest)) text'' u
-        told = q.tells here_front.rest here_front.listed
+        first_told : Tells text t (runs (take end script') (n + 1) (combinations (left - 1) here_front.rest)) text'' u
+        first_told = q.tells here_front.rest here_front.listed
 
         pub choosing_without : Choosing table (next_at table from) left script'' used n text'' u
         choosing_without = record {
@@ -258,8 +259,8 @@ module _ {table : List ℕ} {from left : ℕ} {script : List ℕ} {used n : ℕ}
             small = rest_small;
             cells = omega (arith, p.room.cells, long, written_long w);
             clauses = p.room.clauses;
-            place = written_in told.lines;
-            sets = omega (arith, p.room.sets, count_both, tells_count told, runs_long (take end script') (n + 1) (combinations (left - 1) here_front.rest));
+            place = written_in first_told.lines;
+            sets = omega (arith, p.room.sets, count_both, tells_count first_told, runs_long (take end script') (n + 1) (combinations (left - 1) here_front.rest));
           };
         }
 
@@ -293,7 +294,7 @@ module _ {script : List ℕ} {used : ℕ} {script' : List ℕ} {end : ℕ} (w : 
 
   pub solved-all : {n : ℕ} {text : List ℕ} {t : Told} {text' : List ℕ} {at : ℕ} {s : Score} {f : Found} → f ≡ fresh n (take end script') → length (printed f) ≤ longest
       → Written text t.at (printed f) text' at → s ≡ one_more t.score f.conflicts
-      → Solved script used n text t script' text' (record { at = at; score = s })
+      → Solved script used n text t script' text' (told at s)
   solved-all {n} {text} {t} {text'} {at} {s} {f} e c p q = record {
     kept = written_before w solve_fits;
     tells = tells_as (fresh n (take used script ++ solve_record) ∷ []) (tells_one c p q)

@@ -1,16 +1,17 @@
 -- From the sets' lines to a book's text, and to the whole of `output`.
 use Rattle.std.specs.Prelude.{◌≡◌, refl, List, [], ◌∷◌, ◌++◌, map, ℕ, zero, suc, ◌≤◌, length, take, drop}
 use Rattle.std.proofs.Math.Path.{ap}
-use Rattle.std.proofs.Common.{ap₂, ◌∙◌, arith, zero-add, length-append}
+use Rattle.std.proofs.Common.{ap₂, subst, ◌∙◌, arith, zero-add, length-append}
 use Rattle.std.proofs.lemmas.List.Edits.{sets-eq}
 use Rattle.text.specs.Bytes.{bytes}
 use Rattle.text.specs.Number.{shown}
 use Rattle.text.specs.Answers.{numbered}
 use Rattle.text.specs.PrintBound.{number_length, numbered-length}
-use Rattle.text.specs.WriteLaws.{Written, joined, written_as, written_in}
+use Rattle.text.specs.WriteLaws.{Written, joined, written_as}
 use Rattle.smallbooks.specs.declared.Found.{Found}
 use Rattle.smallbooks.specs.declared.Score.{Score}
-use Rattle.smallbooks.specs.declared.Told.{Told}
+use Rattle.text.specs.declared.printer.Printer.{Printer}
+use Rattle.smallbooks.specs.Tell.{Told}
 use Rattle.smallbooks.specs.Choose.{combinations, of_sizes}
 use Rattle.smallbooks.specs.Books.{upward, literals, apart, filter, clauses, sets, header, record_of, records_of, solve_record, script, fresh, solved, all_printed, printed_most, printed_book, book, output}
 use Rattle.smallbooks.proofs.SetsLaws.{clauses_short}
@@ -128,10 +129,6 @@ booked {v} {table} {script} {text} {t} {text'} {r} {text''} {e} a l k z w h =
       );
     }
 
-pub told_in : (v : ℕ) {table script text : List ℕ} {t : Told} {text' : List ℕ} {r : Told} → AllTold table script text t text' r → table ≡ records_of (clauses v)
-    → r.at ≤ length text'
-told_in v a l = written_in (a.tells (clauses v) l).lines
-
 -- ---- the whole
 
 pub prints : {s one two three : List ℕ} {a b r : ℕ} → Booked 1 s 0 one a → Booked 2 one a two b → Booked 3 two b three r → Prints s three r
@@ -157,3 +154,9 @@ prints {s} {one} {two} {three} {a} {b} {r} p q z =
         omega (arith, w.end, short),
       );
     }
+
+-- through a printer over the slice
+pub prints_by : (p : Printer) {s after one two three : List ℕ} {a b r : ℕ} → p.at ≡ 0 → p.text.now ≡ s → after ≡ three → Booked 1 p.text.now p.at one a → Booked 2 one a two b
+    → Booked 3 two b three r → Prints s after r
+prints_by p {s} {after} {one} {two} {three} {a} {b} {r} z f g x y w =
+    rw g (prints (subst (λ (t : List ℕ). Booked 1 t 0 one a) f (subst (λ (i : ℕ). Booked 1 p.text.now i one a) z x)) y w)

@@ -6,6 +6,8 @@ use Rattle.model.specs.Script.{clause_kind, solve_kind}
 use Rattle.model.specs.Run.{After, turned_back, ran, after}
 use Rattle.text.specs.Bytes.{bytes}
 use Rattle.text.specs.Number.{shown}
+use Rattle.text.specs.declared.kinds.Verdict.TheVariants.{Undef}
+use Rattle.text.specs.Kinds.{verdict_of, cell_of}
 use Rattle.text.specs.Answers.{verdict, numbered}
 use Rattle.smallbooks.specs.declared.Found.{Found}
 use Rattle.smallbooks.specs.Choose.{of_sizes}
@@ -80,8 +82,8 @@ script v s = header v ++ (records_of s ++ solve_record)
 -- what a run says of the solve that stands behind n clauses; a refusal would be no verdict
 unfoldable pub found : ℕ → After → Found
 found n x = elim x.answer [
-  | turned_back _ _ ↦ record { answer = 2; conflicts = 0 }
-  | ran _ ↦ record { answer = get_or x.out n 0; conflicts = get_or x.out (n + 1) 0 }
+  | turned_back _ _ ↦ record { verdict = Undef; conflicts = 0 }
+  | ran _ ↦ record { verdict = verdict_of (get_or x.out n 0); conflicts = get_or x.out (n + 1) 0 }
 ]
 
 -- a fresh run: slices of zeros, long enough for three variables and three clauses
@@ -95,7 +97,7 @@ solved v s = fresh (length s) (script v s)
 
 -- a set's two lines
 unfoldable pub printed : Found → List ℕ
-printed f = verdict f.answer ++ numbered (bytes "conflicts=") f.conflicts
+printed f = verdict (cell_of f.verdict) ++ numbered (bytes "conflicts=") f.conflicts
 
 unfoldable pub all_printed : List Found → List ℕ
 all_printed [] = []

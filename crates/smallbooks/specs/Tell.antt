@@ -5,7 +5,7 @@ use Rattle.std.proofs.Math.ListN.{length, get_or, take, drop}
 use Rattle.lawbase.specs.Basics.{Every}
 use Rattle.text.specs.WriteLaws.{Written}
 use Rattle.smallbooks.specs.declared.Found.{Found}
-use Rattle.smallbooks.specs.declared.Told.{Told}
+use Rattle.smallbooks.specs.declared.Score.{Score}
 use Rattle.smallbooks.specs.Choose.{combinations, of_sizes}
 use Rattle.smallbooks.specs.Books.{records_of, solve_record, fresh, all_printed}
 use Rattle.smallbooks.specs.Score.{scores}
@@ -18,6 +18,13 @@ abbrev pub conflicts_of : List Found → List ℕ
 conflicts_of fs = map (λ f. f.conflicts) fs
 
 -- ---- told: the text from t's place on, and the score
+
+pub record Told : Type 0 where
+  pub at : ℕ
+  pub score : Score
+
+abbrev pub told : ℕ → Score → Told
+told at score = record { at = at; score = score }
 
 pub record Tells (text : List ℕ) (t : Told) (fs : List Found) (text' : List ℕ) (r : Told) : Type 0 where
   pub lines : Written text t.at (all_printed fs) text' r.at

@@ -3,18 +3,21 @@
 
 ghost use Rattle.std.specs.Prelude.{◌≡◌, ◌+◌, ◌*◌, ◌≤◌, ◌<◌, length};
 ghost use Rattle.text.specs.WriteLaws.{Written};
+ghost use Rattle.text.specs.Prints.{Prints as PrintsMore};
 ghost use Rattle.std.proofs.lemmas.List.Edits.{sets};
 ghost use Rattle.model.specs.Run.{after};
 ghost use Rattle.smallbooks.specs.Books.{apart, clauses, header, record_of, records_of, solve_record, found, fresh, printed};
 ghost use Rattle.smallbooks.specs.Pick.{if_apart, Picking, Picked};
 ghost use Rattle.smallbooks.specs.Score.{one_more};
-ghost use Rattle.smallbooks.specs.Tell.{longest, Solved, Choosing, Chose, Listing, AllTold};
+ghost use Rattle.smallbooks.specs.Tell.{longest, told, Solved, Choosing, Chose, Listing, AllTold};
 ghost use Rattle.smallbooks.specs.Whole.{table_cells, most_line, Booked, Prints};
+
+use text::{Printer, Verdict};
 
 // What a run answers to its solve.
 #[derive(Clone, Copy)]
 pub struct Found {
-    pub answer: u32,
+    pub verdict: Verdict,
     pub conflicts: u32,
 }
 
@@ -24,13 +27,6 @@ pub struct Score {
     pub count: u32,
     pub most: u32,
     pub first: u32,
-}
-
-// The text's end, and the score so far.
-#[derive(Clone, Copy)]
-pub struct Told {
-    pub at: usize,
-    pub score: Score,
 }
 
 // ---- the clauses
@@ -127,15 +123,12 @@ fn answer(
     ensures { result ≡ found n (after script.now work.old activities.old out.old) }
 {
     match engine::run(script, work, activities, out) {
-        engine::Answer::Refused {
-            number: _,
-            place: _,
-        } => Found {
-            answer: 2,
+        Err(_) => Found {
+            verdict: Verdict::Undef,
             conflicts: 0,
         },
-        engine::Answer::Ran { cells: _ } => Found {
-            answer: out[n],
+        Ok(_) => Found {
+            verdict: Verdict::from(out[n]),
             conflicts: out[n + 1],
         },
     }
@@ -173,12 +166,12 @@ fn counted(score: Score, conflicts: u32) -> Score
 }
 
 // A set's two lines.
-fn put_found(text: &mut [u8], at: usize, found: Found) -> usize
-    requires { at ≤ length text.old }
-    ensures { Written text.old at (printed found) text.new result × (length (printed found) ≤ longest) }
+fn put_found(printer: &mut Printer, found: Found)
+    ensures lines { PrintsMore printer.old printer.new (printed found) }
+    ensures short { length (printed found) ≤ longest }
 {
-    let k = text::put_verdict(text, at, found.answer);
-    text::put_numbered(text, k, b"conflicts=", found.conflicts as u64)
+    printer.verdict(found.verdict);
+    printer.numbered(b"conflicts=", u64::from(found.conflicts));
 }
 
 // The solve's record.
@@ -193,19 +186,15 @@ fn put_solve(script: &mut [u32], at: usize) -> usize
 }
 
 // A set of n clauses, whose script lacks its solve: its run and its lines.
-fn solved(script: &mut [u32], used: usize, n: usize, told: Told, text: &mut [u8]) -> Told
-    requires { (used + 3 ≤ length script.old) × (n ≤ 3) × (told.at ≤ length text.old) × (told.score.count < 4294967295) }
-    ensures { Solved script.old used n text.old told script.new text.new result }
+fn solved(script: &mut [u32], used: usize, n: usize, score: Score, printer: &mut Printer) -> Score
+    requires { (used + 3 ≤ length script.old) × (n ≤ 3) × (score.count < 4294967295) }
+    ensures same_reference { printer.new.text.ghost_name ≡ printer.old.text.ghost_name }
+    ensures solved { Solved script.old used n printer.old.text.now (told printer.old.at score) script.new printer.new.text.now (told printer.new.at result) }
 {
     let end = put_solve(script, used);
     let found = fresh(&script[..end], n);
-    let at = put_found(text, told.at, found);
-    let score = told.score;
-    let more = counted(score, found.conflicts);
-    Told {
-        at: at,
-        score: more,
-    }
+    put_found(printer, found);
+    counted(score, found.conflicts)
 }
 
 // ---- the sets
@@ -218,37 +207,37 @@ fn each_set(
     script: &mut [u32],
     used: usize,
     n: usize,
-    told: Told,
-    text: &mut [u8],
-) -> Told
-    requires { Choosing table.now from left script.old used n text.old told }
-    ensures { Chose table.now from left script.old used n text.old told script.new text.new result }
+    score: Score,
+    printer: &mut Printer,
+) -> Score
+    requires { Choosing table.now from left script.old used n printer.old.text.now (told printer.old.at score) }
+    ensures same_reference { printer.new.text.ghost_name ≡ printer.old.text.ghost_name }
+    ensures chose { Chose table.now from left script.old used n printer.old.text.now (told printer.old.at score) script.new printer.new.text.now (told printer.new.at result) }
 {
     if left == 0 {
-        return solved(script, used, n, told, text);
+        return solved(script, used, n, score, printer);
     }
     if from == table.len() {
-        return told;
+        return score;
     }
     let start = from + 2;
     let next = start + table[from + 1] as usize;
     let end = put_clause(script, used, &table[start..next]);
-    let t = each_set(table, next, left - 1, script, end, n + 1, told, text);
-    each_set(table, next, left, script, used, n, t, text)
+    let more = each_set(table, next, left - 1, script, end, n + 1, score, printer);
+    each_set(table, next, left, script, used, n, more, printer)
 }
 
 // The sets of at most three clauses, by size.
-fn sets(table: &[u32], script: &mut [u32], told: Told, text: &mut [u8]) -> Told
-    requires { Listing table.now script.old text.old told }
-    ensures { AllTold table.now script.old text.old told text.new result }
+fn sets(table: &[u32], script: &mut [u32], score: Score, printer: &mut Printer) -> Score
+    requires { Listing table.now script.old printer.old.text.now (told printer.old.at score) }
+    ensures same_reference { printer.new.text.ghost_name ≡ printer.old.text.ghost_name }
+    ensures all { AllTold table.now script.old printer.old.text.now (told printer.old.at score) printer.new.text.now (told printer.new.at result) }
 {
-    let mut t = told;
-    let mut k: usize = 0;
-    while k <= 3 {
-        t = each_set(table, 0, k, script, 6, 0, t, text);
-        k += 1;
+    let mut total = score;
+    for k in 0..4 {
+        total = each_set(table, 0, k, script, 6, 0, total, printer);
     }
-    t
+    total
 }
 
 // ---- a book
@@ -266,27 +255,21 @@ fn put_header(script: &mut [u32], v: u32)
 }
 
 // The greatest conflicts, and the first set with that many.
-fn put_most(text: &mut [u8], at: usize, score: Score) -> usize
-    requires { at ≤ length text.old }
-    ensures { Written text.old at (most_line score) text.new result × (length (most_line score) ≤ 27) }
+fn put_most(printer: &mut Printer, score: Score)
+    ensures line { PrintsMore printer.old printer.new (most_line score) }
+    ensures short { length (most_line score) ≤ 27 }
 {
-    let k = text::put_bytes(text, at, b"most=");
-    let m = text::put_number(text, k, score.most as u64);
-    text::put_numbered(text, m, b" ", score.first as u64)
+    printer.bytes(b"most=");
+    printer.number(u64::from(score.most));
+    printer.numbered(b" ", u64::from(score.first));
 }
 
 // The sets of v variables, and their most; `chosen`, `table` and `script` are for the literals of a clause, the clauses, and a set's script.
-fn book_in(
-    v: u32,
-    chosen: &mut [u32],
-    table: &mut [u32],
-    script: &mut [u32],
-    text: &mut [u8],
-    at: usize,
-) -> usize
-    requires v_bound { (v ≤ 3) × (at ≤ length text.old) }
+fn book_in(v: u32, chosen: &mut [u32], table: &mut [u32], script: &mut [u32], printer: &mut Printer)
+    requires v_bound { v ≤ 3 }
     requires chosen_len { (length chosen.old ≡ 3) × (table_cells ≤ length table.old) × (24 ≤ length script.old) }
-    ensures { Booked v text.old at text.new result }
+    ensures same_reference { printer.new.text.ghost_name ≡ printer.old.text.ghost_name }
+    ensures booked { Booked v printer.old.text.now printer.old.at printer.new.text.now printer.new.at }
 {
     let n = clauses(v, chosen, table);
     put_header(script, v);
@@ -295,31 +278,28 @@ fn book_in(
         most: 0,
         first: 1,
     };
-    let start = Told {
-        at: at,
-        score: none,
-    };
-    let told = sets(&table[..n], script, start, text);
-    let end = told.at;
-    let score = told.score;
-    put_most(text, end, score)
+    let score = sets(&table[..n], script, none, printer);
+    put_most(printer, score);
 }
 
-fn book(v: u32, text: &mut [u8], at: usize) -> usize
-    requires { (v ≤ 3) × (at ≤ length text.old) }
-    ensures { Booked v text.old at text.new result }
+fn book(v: u32, printer: &mut Printer)
+    requires { v ≤ 3 }
+    ensures same_reference { printer.new.text.ghost_name ≡ printer.old.text.ghost_name }
+    ensures booked { Booked v printer.old.text.now printer.old.at printer.new.text.now printer.new.at }
 {
     let mut chosen = [0u32; 3];
     let mut table = [0u32; 112];
     let mut script = [0u32; 24];
-    book_in(v, &mut chosen, &mut table, &mut script, text, at)
+    book_in(v, &mut chosen, &mut table, &mut script, printer);
 }
 
 // Every small rule book, of one, two and three variables; the result is where the text ends.
 pub fn print(text: &mut [u8]) -> usize
     ensures { Prints text.old text.new result }
 {
-    let one = book(1, text, 0);
-    let two = book(2, text, one);
-    book(3, text, two)
+    let mut printer = Printer::new(text);
+    book(1, &mut printer);
+    book(2, &mut printer);
+    book(3, &mut printer);
+    printer.at
 }

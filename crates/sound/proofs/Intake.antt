@@ -4,7 +4,7 @@ use Rattle.std.proofs.Common.{ap, sym, ◌∙◌, inl, inr, true≢false, arith,
 use mathlib.Core.List.Memᴰ.{head as here}
 use mathlib.Core.List.Memᴰ.{not-nil}
 use mathlib.Core.List.Memᴰ.{tail as there}
-use Rattle.std.proofs.Math.Option.{Option, none}
+use Rattle.std.specs.Prelude.{Option, None as none}
 use Rattle.model.specs.Lit.{var, sign, neg, undef_lit, l_true, l_false, l_undef, value_for, value_lit, is_true, is_false}
 use Rattle.model.specs.Script.{Config}
 use Rattle.model.specs.State.{Store, State}

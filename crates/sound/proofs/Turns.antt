@@ -1,7 +1,7 @@
 -- One turn of `search`: propagation, then a conflict or the next decision.
 use Rattle.std.specs.Prelude.{◌≡◌, refl, false, ◌||◌, List, ℕ, ◌*◌, ◌≤◌, ◌<◌, length, get_or, leb}
 use Rattle.std.proofs.Common.{sym, ◌∙◌, subst}
-use Rattle.std.proofs.Math.Option.{none, some}
+use Rattle.std.specs.Prelude.{None as none, Some as some}
 use Rattle.model.specs.Lit.{var, no_reason, l_undef}
 use Rattle.model.specs.Script.{Config}
 use Rattle.model.specs.State.{State, Solver, clause_at, with_state}

@@ -1,5 +1,5 @@
 -- What `loadsat` prints.
-use Rattle.std.specs.Prelude.{ℕ, zero, suc, ◌+◌, ◌*◌, Bool, true, false, List, [], ◌∷◌, ◌++◌, length, get_or, take, drop, eqb}
+use Rattle.std.specs.Prelude.{ℕ, zero, suc, ◌+◌, ◌*◌, true, false, List, [], ◌∷◌, ◌++◌, get_or, take, drop, eqb}
 use Rattle.model.specs.Limits.{header_cells}
 use Rattle.model.specs.Script.{solve_kind, trailing}
 use Rattle.text.specs.Bytes.{bytes, blank, newline}

@@ -2,6 +2,7 @@
 use Rattle.std.specs.Prelude.{ℕ, ◌<◌, ◌≡◌, refl, List, [], ◌∷◌, ◌++◌, length}
 use Prim.Native.String.{String}
 use Rattle.std.proofs.lemmas.Bool.{lt-leb}
+use Rattle.refusal.specs.declared.Rule.TheVariants.{BadKey, BadNumber, LongText}
 use Rattle.text.specs.Limits.{max_cells, max_bytes}
 use Rattle.model.specs.Script.{limits, trailing}
 use Rattle.text.specs.Bytes.{bytes}
@@ -83,46 +84,46 @@ unfolding read·
 no_records = refl
 
 -- a carriage return is a byte like others
-carriage_return : read· "vars=2\r\n" ≡ refused 14 1 []
+carriage_return : read· "vars=2\r\n" ≡ refused BadNumber 1 []
 unfolding read·
 carriage_return = refl
 
-carriage_return_alone : read· "vars=1\nmode=0\nphase=0\nunit=1\nclause=\r\n" ≡ refused 14 5 (1 ∷ 512 ∷ 4096 ∷ 0 ∷ 0 ∷ 1 ∷ [])
+carriage_return_alone : read· "vars=1\nmode=0\nphase=0\nunit=1\nclause=\r\n" ≡ refused BadNumber 5 (1 ∷ 512 ∷ 4096 ∷ 0 ∷ 0 ∷ 1 ∷ [])
 unfolding read·
 carriage_return_alone = refl
 
 -- ---- 13
 
-empty : read· "" ≡ refused 13 1 []
+empty : read· "" ≡ refused BadKey 1 []
 unfolding read·
 empty = refl
 
-missing : read· "vars=2\nmode=1\nphase=0\n" ≡ refused 13 4 (2 ∷ 512 ∷ 4096 ∷ 1 ∷ 0 ∷ [])
+missing : read· "vars=2\nmode=1\nphase=0\n" ≡ refused BadKey 4 (2 ∷ 512 ∷ 4096 ∷ 1 ∷ 0 ∷ [])
 unfolding read·
 missing = refl
 
-empty_line_first : read· "\nvars=2\n" ≡ refused 13 1 []
+empty_line_first : read· "\nvars=2\n" ≡ refused BadKey 1 []
 unfolding read·
 empty_line_first = refl
 
-empty_line_last : read· "vars=1\nmode=0\nphase=0\nunit=1\n\n" ≡ refused 13 5 (1 ∷ 512 ∷ 4096 ∷ 0 ∷ 0 ∷ 1 ∷ [])
+empty_line_last : read· "vars=1\nmode=0\nphase=0\nunit=1\n\n" ≡ refused BadKey 5 (1 ∷ 512 ∷ 4096 ∷ 0 ∷ 0 ∷ 1 ∷ [])
 unfolding read·
 empty_line_last = refl
 
-misplaced : read· "vars=1\nphase=0\n" ≡ refused 13 2 (1 ∷ 512 ∷ 4096 ∷ [])
+misplaced : read· "vars=1\nphase=0\n" ≡ refused BadKey 2 (1 ∷ 512 ∷ 4096 ∷ [])
 unfolding read·
 misplaced = refl
 
-blank_first : read· " vars=1\n" ≡ refused 13 1 []
+blank_first : read· " vars=1\n" ≡ refused BadKey 1 []
 unfolding read·
 blank_first = refl
 
-again : read· "vars=1\nmode=0\nphase=0\nunit=1\nunit=1\n" ≡ refused 13 5 (1 ∷ 512 ∷ 4096 ∷ 0 ∷ 0 ∷ 1 ∷ [])
+again : read· "vars=1\nmode=0\nphase=0\nunit=1\nunit=1\n" ≡ refused BadKey 5 (1 ∷ 512 ∷ 4096 ∷ 0 ∷ 0 ∷ 1 ∷ [])
 unfolding read·
 again = refl
 
 -- the whole text is judged before the run judges the script
-mode_then_key : read· "vars=1\nmode=3\nphase=0\nunits=1\n" ≡ refused 13 4 (1 ∷ 512 ∷ 4096 ∷ 3 ∷ 0 ∷ [])
+mode_then_key : read· "vars=1\nmode=3\nphase=0\nunits=1\n" ≡ refused BadKey 4 (1 ∷ 512 ∷ 4096 ∷ 3 ∷ 0 ∷ [])
 unfolding read·
 mode_then_key = refl
 
@@ -144,55 +145,55 @@ repeats : clause "1 1 -1" ≡ script (header ++ 1 ∷ 3 ∷ 0 ∷ 0 ∷ 1 ∷ []
 unfolding clause
 repeats = refl
 
-plus : clause "+1" ≡ refused 14 5 header
+plus : clause "+1" ≡ refused BadNumber 5 header
 unfolding clause
 plus = refl
 
-zero-literal : clause "0" ≡ refused 14 5 header
+zero-literal : clause "0" ≡ refused BadNumber 5 header
 unfolding clause
 zero-literal = refl
 
-minus-zero : clause "-0" ≡ refused 14 5 header
+minus-zero : clause "-0" ≡ refused BadNumber 5 header
 unfolding clause
 minus-zero = refl
 
-two_signs : clause "--1" ≡ refused 14 5 header
+two_signs : clause "--1" ≡ refused BadNumber 5 header
 unfolding clause
 two_signs = refl
 
-sign_alone : clause "-" ≡ refused 14 5 header
+sign_alone : clause "-" ≡ refused BadNumber 5 header
 unfolding clause
 sign_alone = refl
 
-tab : clause "1\t2" ≡ refused 14 5 header
+tab : clause "1\t2" ≡ refused BadNumber 5 header
 unfolding clause
 tab = refl
 
-two_blanks : clause "1  2" ≡ refused 14 5 header
+two_blanks : clause "1  2" ≡ refused BadNumber 5 header
 unfolding clause
 two_blanks = refl
 
-blank_before : clause " 1" ≡ refused 14 5 header
+blank_before : clause " 1" ≡ refused BadNumber 5 header
 unfolding clause
 blank_before = refl
 
-blank_behind : clause "1 " ≡ refused 14 5 header
+blank_behind : clause "1 " ≡ refused BadNumber 5 header
 unfolding clause
 blank_behind = refl
 
-blank_alone : clause " " ≡ refused 14 5 header
+blank_alone : clause " " ≡ refused BadNumber 5 header
 unfolding clause
 blank_alone = refl
 
-beyond : clause "1\nclause=-4" ≡ refused 14 6 (header ++ 1 ∷ 1 ∷ 0 ∷ [])
+beyond : clause "1\nclause=-4" ≡ refused BadNumber 6 (header ++ 1 ∷ 1 ∷ 0 ∷ [])
 unfolding clause
 beyond = refl
 
-no_budget : clause "\nsolve=" ≡ refused 14 6 (header ++ 1 ∷ 0 ∷ [])
+no_budget : clause "\nsolve=" ≡ refused BadNumber 6 (header ++ 1 ∷ 0 ∷ [])
 unfolding clause
 no_budget = refl
 
-negative_budget : clause "\nsolve=-1" ≡ refused 14 6 (header ++ 1 ∷ 0 ∷ [])
+negative_budget : clause "\nsolve=-1" ≡ refused BadNumber 6 (header ++ 1 ∷ 0 ∷ [])
 unfolding clause
 negative_budget = refl
 
@@ -200,20 +201,20 @@ largest_budget : clause "\nsolve=4294967295 3" ≡ script (header ++ 1 ∷ 0 ∷
 unfolding clause
 largest_budget = refl
 
-budget-too_large : clause "\nsolve=4294967296" ≡ refused 14 6 (header ++ 1 ∷ 0 ∷ [])
+budget-too_large : clause "\nsolve=4294967296" ≡ refused BadNumber 6 (header ++ 1 ∷ 0 ∷ [])
 unfolding clause
 budget-too_large = refl
 
-no_vars : read· "vars=\n" ≡ refused 14 1 []
+no_vars : read· "vars=\n" ≡ refused BadNumber 1 []
 unfolding read·
 no_vars = refl
 
-negative_vars : read· "vars=-1\n" ≡ refused 14 1 []
+negative_vars : read· "vars=-1\n" ≡ refused BadNumber 1 []
 unfolding read·
 negative_vars = refl
 
 -- with no variables any literal is 14; without one the text is a script, which the run refuses
-zero_vars : read· "vars=0\nmode=0\nphase=0\nunit=1\nclause=1\n" ≡ refused 14 5 (0 ∷ 512 ∷ 4096 ∷ 0 ∷ 0 ∷ 1 ∷ [])
+zero_vars : read· "vars=0\nmode=0\nphase=0\nunit=1\nclause=1\n" ≡ refused BadNumber 5 (0 ∷ 512 ∷ 4096 ∷ 0 ∷ 0 ∷ 1 ∷ [])
 unfolding read·
 zero_vars = refl
 
@@ -223,7 +224,7 @@ zero_vars_alone = refl
 
 -- ---- 15
 
-vars_over : read· "vars=129\n" ≡ refused 15 1 []
+vars_over : read· "vars=129\n" ≡ refused LongText 1 []
 unfolding read·
 vars_over = refl
 
@@ -232,7 +233,7 @@ unfolding read·
 vars_most = refl
 
 -- vars far beyond what a number may be is 14
-vars_14 : read· "vars=4294967296\n" ≡ refused 14 1 []
+vars_14 : read· "vars=4294967296\n" ≡ refused BadNumber 1 []
 unfolding read·
 vars_14 = refl
 
@@ -245,16 +246,16 @@ fits : short "vars=2\nmode=0\nphase=0\nunit=1\nclause=1 2 1\nclause=1 2 1\n" ≡
 unfolding short
 fits = refl
 
-too_long : short "vars=2\nmode=0\nphase=0\nunit=1\nclause=1 2 1\nclause=1 2 1 2\n" ≡ refused 15 6 (2 ∷ 512 ∷ 4096 ∷ 0 ∷ 0 ∷ 1 ∷ 1 ∷ 3 ∷ 0 ∷ 2 ∷ 0 ∷ [])
+too_long : short "vars=2\nmode=0\nphase=0\nunit=1\nclause=1 2 1\nclause=1 2 1 2\n" ≡ refused LongText 6 (2 ∷ 512 ∷ 4096 ∷ 0 ∷ 0 ∷ 1 ∷ 1 ∷ 3 ∷ 0 ∷ 2 ∷ 0 ∷ [])
 unfolding short
 too_long = refl
 
-too_long_14 : short "vars=2\nmode=0\nphase=0\nunit=1\nclause=1 2 1\nclause=1 2 1 3\n" ≡ refused 14 6 (2 ∷ 512 ∷ 4096 ∷ 0 ∷ 0 ∷ 1 ∷ 1 ∷ 3 ∷ 0 ∷ 2 ∷ 0 ∷ [])
+too_long_14 : short "vars=2\nmode=0\nphase=0\nunit=1\nclause=1 2 1\nclause=1 2 1 3\n" ≡ refused BadNumber 6 (2 ∷ 512 ∷ 4096 ∷ 0 ∷ 0 ∷ 1 ∷ 1 ∷ 3 ∷ 0 ∷ 2 ∷ 0 ∷ [])
 unfolding short
 too_long_14 = refl
 
 -- a text over 1,048,576 bytes, whatever it holds
-long : (text : List ℕ) → max_bytes < length text → read_text max_cells text ≡ refused 15 0 []
+long : (text : List ℕ) → max_bytes < length text → read_text max_cells text ≡ refused LongText 0 []
 unfolding read_text
 long text h = rw (lt-leb (length text) max_bytes h, read_text)
 

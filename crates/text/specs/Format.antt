@@ -4,34 +4,35 @@
 --     vars   = "vars=" number        mode = "mode=" number      phase = "phase=" number      unit = "unit=" number
 --     clause = "clause=" [ literal { blank literal } ]
 --     solve  = "solve=" number { blank literal }
-use Rattle.std.specs.Prelude.{ℕ, zero, suc, ◌+◌, ◌-◌, Bool, true, false, List, [], ◌∷◌, ◌++◌, length, get_or, drop, eqb, leb, ltb}
+use Rattle.std.specs.Prelude.{ℕ, zero, suc, ◌+◌, ◌-◌, Bool, true, false, None, Some, List, [], ◌∷◌, ◌++◌, length, get_or, drop, eqb, leb, ltb}
 use Rattle.model.specs.Script.{clause_kind, solve_kind}
+use Rattle.refusal.specs.declared.Rule.{Rule}
+use Rattle.refusal.specs.declared.Rule.TheVariants.{BadKey, BadNumber, LongText}
 use Rattle.text.specs.Limits as Limits
-use Rattle.text.specs.Limits.{max_bytes, max_vars, first_record, bad_key, bad_number, too_large}
+use Rattle.text.specs.Limits.{max_bytes, max_vars, first_record}
 use Rattle.text.specs.Bytes.{bytes}
 use Rattle.text.specs.Split.{lines, words, starts}
 use Rattle.text.specs.Number.{decimal, literal}
-use Rattle.text.specs.declared.Number.TheVariants.{Bad, Value}
 
 -- ---- a line
 
--- the cells that a line stands for, or the number that refuses it
+-- the cells that a line stands for, or the rule that it breaks
 pub data Cells : Type 0 where
-  wrong : ℕ → Cells
+  wrong : Rule → Cells
   cells : List ℕ → Cells
 
 unfoldable pub one_more : ℕ → Cells → Cells
-one_more x (wrong number) = wrong number
+one_more x (wrong rule) = wrong rule
 one_more x (cells xs) = cells (x ∷ xs)
 
 -- words that are literals of v variables
 unfoldable pub literals : ℕ → List (List ℕ) → Cells
 literals v [] = cells []
-literals v (w ∷ ws) = elim (literal v w) [ Bad ↦ wrong bad_number | Value l ↦ one_more l (literals v ws) ]
+literals v (w ∷ ws) = elim (literal v w) [ None ↦ wrong BadNumber | Some l ↦ one_more l (literals v ws) ]
 
 -- a record: its kind, how many literals, the literals, and what stands behind them
 unfoldable pub record_of : ℕ → List ℕ → Cells → Cells
-record_of kind more (wrong number) = wrong number
+record_of kind more (wrong rule) = wrong rule
 record_of kind more (cells ls) = cells (kind ∷ length ls ∷ ls ++ more)
 
 -- the words behind `clause=`; none if the line ends there
@@ -44,25 +45,25 @@ clause_cells v body = record_of clause_kind [] (literals v (clause_words body))
 
 -- the words behind `solve=`: the budget, then the assumptions
 unfoldable pub solve_cells : ℕ → List (List ℕ) → Cells
-solve_cells v [] = wrong bad_number
-solve_cells v (w ∷ ws) = elim (decimal w) [ Bad ↦ wrong bad_number | Value budget ↦ record_of solve_kind (budget ∷ []) (literals v ws) ]
+solve_cells v [] = wrong BadNumber
+solve_cells v (w ∷ ws) = elim (decimal w) [ None ↦ wrong BadNumber | Some budget ↦ record_of solve_kind (budget ∷ []) (literals v ws) ]
 
 -- a line of the header is its key and one number
 unfoldable pub value_cells : List ℕ → List ℕ → Cells
 value_cells key line = elim (starts key line) [
-  | false ↦ wrong bad_key
-  | true ↦ elim (decimal (drop (length key) line)) [ Bad ↦ wrong bad_number | Value n ↦ cells (n ∷ []) ]
+  | false ↦ wrong BadKey
+  | true ↦ elim (decimal (drop (length key) line)) [ None ↦ wrong BadNumber | Some n ↦ cells (n ∷ []) ]
 ]
 
 -- V, with C and L, which the text does not have
 unfoldable pub with_sizes : Cells → Cells
-with_sizes (wrong number) = wrong number
-with_sizes (cells xs) = elim (leb (get_or xs 0 0) max_vars) [ true ↦ cells (xs ++ Limits.clauses ∷ Limits.literals ∷ []) | false ↦ wrong too_large ]
+with_sizes (wrong rule) = wrong rule
+with_sizes (cells xs) = elim (leb (get_or xs 0 0) max_vars) [ true ↦ cells (xs ++ Limits.clauses ∷ Limits.literals ∷ []) | false ↦ wrong LongText ]
 
 unfoldable pub record_cells : ℕ → List ℕ → Cells
 record_cells v line = elim (starts (bytes "clause=") line) [
   | true ↦ clause_cells v (drop 7 line)
-  | false ↦ elim (starts (bytes "solve=") line) [ true ↦ solve_cells v (words (drop 6 line)) | false ↦ wrong bad_key ]
+  | false ↦ elim (starts (bytes "solve=") line) [ true ↦ solve_cells v (words (drop 6 line)) | false ↦ wrong BadKey ]
 ]
 
 abbrev pub pick : Bool → Cells → Cells → Cells
@@ -80,28 +81,28 @@ line_cells n v line =
 
 -- where `used` cells stand already, of `room`
 unfoldable pub fitting : ℕ → ℕ → Cells → Cells
-fitting room used (wrong number) = wrong number
-fitting room used (cells xs) = elim (leb (used + length xs) room) [ true ↦ cells xs | false ↦ wrong too_large ]
+fitting room used (wrong rule) = wrong rule
+fitting room used (cells xs) = elim (leb (used + length xs) room) [ true ↦ cells xs | false ↦ wrong LongText ]
 
 -- ---- a text
 
--- refused: the number, the place, and the cells of the lines before that place
+-- refused: the rule, the place, and the cells of the lines before that place
 -- script: the cells, and how many records they hold; record i, from 0, stands on line first_record + i
 pub data Reading : Type 0 where
-  refused : ℕ → ℕ → List ℕ → Reading
+  refused : Rule → ℕ → List ℕ → Reading
   script : List ℕ → ℕ → Reading
 
 -- the lines from line n on, behind the cells so far, whose first is V
 unfoldable pub read_lines : ℕ → ℕ → List ℕ → List (List ℕ) → Reading
-read_lines room n before [] = elim (ltb n first_record) [ true ↦ refused bad_key n before | false ↦ script before (n - first_record) ]
+read_lines room n before [] = elim (ltb n first_record) [ true ↦ refused BadKey n before | false ↦ script before (n - first_record) ]
 read_lines room n before (l ∷ ls) = elim (fitting room (length before) (line_cells n (get_or before 0 0) l)) [
-  | wrong number ↦ refused number n before
+  | wrong rule ↦ refused rule n before
   | cells xs ↦ read_lines room (n + 1) (before ++ xs) ls
 ]
 
 -- a text, read into a script of at most `room` cells
 unfoldable pub read_text : ℕ → List ℕ → Reading
-read_text room text = elim (leb (length text) max_bytes) [ true ↦ read_lines room 1 [] (lines text) | false ↦ refused too_large 0 [] ]
+read_text room text = elim (leb (length text) max_bytes) [ true ↦ read_lines room 1 [] (lines text) | false ↦ refused LongText 0 [] ]
 
 -- the lines of n records, from a line on
 unfoldable pub lines_from : ℕ → ℕ → List ℕ

@@ -8,6 +8,7 @@ pub mod Limits
 pub mod Bytes
 pub mod Split
 pub mod Number
+pub mod Kinds
 pub mod Format
 pub mod Answers
 pub mod SplitLaws
@@ -16,6 +17,7 @@ pub mod FormatLaws
 pub mod PutLaws
 pub mod ReadLaws
 pub mod WriteLaws
+pub mod Prints
 pub mod PrintLaws
 pub mod PrintBound
 pub mod Examples

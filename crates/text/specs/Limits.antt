@@ -1,4 +1,4 @@
--- The limits and refusal numbers of document 01's section "The bench program", each named once.
+-- The limits of document 01's section "The bench program", each named once.
 use Rattle.std.specs.Prelude.{ℕ}
 
 -- the bytes of a text
@@ -26,13 +26,3 @@ literals = 4096
 -- the line of the first record: each line from there on is one record
 abbrev pub first_record : ℕ
 first_record = 5
-
--- the refusals: a wrong, missing or misplaced key; a bad number; too large
-abbrev pub bad_key : ℕ
-bad_key = 13
-
-abbrev pub bad_number : ℕ
-bad_number = 14
-
-abbrev pub too_large : ℕ
-too_large = 15

@@ -1,6 +1,6 @@
 -- The definitions of Answers by their cases, as the code meets them.
 use Rattle.std.specs.Prelude.{ℕ, zero, suc, ◌+◌, ◌-◌, ◌*◌, ◌/◌, ◌%◌, ◌≤◌, ◌<◌, min, ◌≡◌, refl, List, [], ◌∷◌, ◌++◌, length, get_or, take, drop}
-use Rattle.std.proofs.Common.{sym, ap, ◌∙◌, arith, add-zero, add-one, length-drop, drop_of_length-le, drop-cons, drop-drop, get_or-drop, take_all, eq-eqb, ne_eqb}
+use Rattle.std.proofs.Common.{sym, ap, ◌∙◌, arith, add-one, length-drop, drop_of_length-le, drop-cons, take_all, eq-eqb, ne_eqb}
 use Rattle.std.proofs.Math.Decide.{dec_lt}
 use Rattle.model.specs.Limits.{header_cells}
 use Rattle.model.specs.Script.{solve_kind, limits, trailing}
@@ -22,7 +22,10 @@ use Rattle.text.specs.Answers.{
   printed_records,
   printed,
 }
-use Rattle.text.specs.WriteLaws.{Written, Left, left_as, left_more}
+use Rattle.text.specs.declared.kinds.Kind.{Kind}
+use Rattle.text.specs.declared.kinds.Verdict.{Verdict}
+use Rattle.text.specs.declared.kinds.Verdict.TheVariants.{True, False, Undef, Other}
+use Rattle.text.specs.Kinds.{number, kind_of, verdict_of, cell_of}
 
 -- ---- a literal
 
@@ -93,37 +96,56 @@ pub body-listed : (answer : ℕ) (xs : List ℕ) → (answer ≡ 2 → ⊥) → 
 unfolding body
 body-listed answer xs e = rw (body, ne_eqb answer 2 e)
 
--- the cells behind the first three, as far as there are
-take_clipped : (n : ℕ) (l : List ℕ) → take (min n (length l)) l ≡ take n l
+-- the first n cells, as far as there are
+pub take_clipped : (n : ℕ) (l : List ℕ) → take (min (length l) n) l ≡ take n l
 take_clipped n l = go (dec_lt n (length l))
   where
-    go : Dec (n < length l) → take (min n (length l)) l ≡ take n l
-    go (yes h) = let e : min n (length l) ≡ n = omega arith in rw e
-    go (no h) = take_all (min n (length l)) l (omega arith) ∙ sym (take_all n l (omega arith))
+    go : Dec (n < length l) → take (min (length l) n) l ≡ take n l
+    go (yes h) = let e : min (length l) n ≡ n = omega arith in rw e
+    go (no h) = take_all (min (length l) n) l (omega arith) ∙ sym (take_all n l (omega arith))
 
-pub drop_clipped : (n : ℕ) (l : List ℕ) → drop (min n (length l)) l ≡ drop n l
-drop_clipped n l = go (dec_lt n (length l))
-  where
-    go : Dec (n < length l) → drop (min n (length l)) l ≡ drop n l
-    go (yes h) = let e : min n (length l) ≡ n = omega arith in rw e
-    go (no h) =
-        let a : length l ≤ min n (length l) = omega arith in
-        let b : length l ≤ n = omega arith in
-        drop_of_length-le l a ∙ sym (drop_of_length-le l b)
+pub verdict_other : (v : Verdict) → (v ≡ True → ⊥) → (v ≡ False → ⊥) → verdict (cell_of v) ≡ bytes "answer=UNDEF\n"
+unfolding verdict
+verdict_other True e f = absurd (e refl)
+verdict_other False e f = absurd (f refl)
+verdict_other Undef e f = refl
+verdict_other Other e f = refl
 
-pub body-part : (l : List ℕ) (count from to : ℕ) → from ≡ min 3 (length l) → to ≡ min (from + count) (length l) → take (to - from) (drop from l) ≡ take count (drop 3 l)
-body-part l count from to e f =
-    let d : drop from l ≡ drop 3 l = ap (λ (k : ℕ). drop k l) e ∙ drop_clipped 3 l in
-    let n : to - from ≡ min count (length (drop from l)) = omega (arith, length-drop from l) in
-    ap (λ (k : ℕ). take k (drop from l)) n ∙ take_clipped count (drop from l) ∙ ap (take count) d
+pub cell_other : (v : Verdict) → (v ≡ Undef → ⊥) → cell_of v ≡ 2 → ⊥
+cell_other True e f = omega (arith, f)
+cell_other False e f = omega (arith, f)
+cell_other Undef e f = e refl
+cell_other Other e f = omega (arith, f)
 
-pub left_item : {s : List ℕ} {at : ℕ} {first : List ℕ} {from : ℕ} {all s' : List ℕ} {r : ℕ} (answer i l : ℕ) (xs : List ℕ) → i < length xs
-    → Left s at (listed answer i (drop i xs)) first from all → l ≡ item answer i (get_or xs i 0) → Written s at (spaced i (shown_literal l)) s' r
-    → Left s' r (listed answer (i + 1) (drop (i + 1) xs)) first from all
-left_item answer i l xs h q e w =
-    left_more {xs = spaced i (shown_literal l)} {ys = listed answer (i + 1) (drop (i + 1) xs)}
-    (left_as (spaced i (shown_literal l) ++ listed answer (i + 1) (drop (i + 1) xs)) q (listed_turn answer i xs h ∙ ap (λ (k : ℕ). spaced i (shown_literal k) ++ listed answer (i + 1) (drop (i + 1) xs)) (sym e)))
-    w
+-- a cell stands for the same whether it is 3 or another number above
+pub verdict_cell : (a : ℕ) → verdict (cell_of (verdict_of a)) ≡ verdict a
+unfolding verdict
+verdict_cell zero = refl
+verdict_cell (suc zero) = refl
+verdict_cell (suc (suc zero)) = refl
+verdict_cell (suc (suc (suc a))) = sym (verdict_undef (suc (suc (suc a))) (omega arith) (omega arith))
+
+listed_cell : (a i : ℕ) (xs : List ℕ) → listed 3 i xs ≡ listed (suc (suc (suc a))) i xs
+unfolding listed
+listed_cell a i [] = refl
+listed_cell a i (x ∷ xs) =
+    ap (λ (l : List ℕ). spaced i (shown_literal (item 3 i x)) ++ l) (listed_cell a (i + 1) xs)
+    ∙ ap (λ (k : ℕ). spaced i (shown_literal k) ++ listed (suc (suc (suc a))) (i + 1) xs) (item_other 3 i x (omega arith) ∙ sym (item_other (suc (suc (suc a))) i x (omega arith)))
+
+pub body_cell : (a : ℕ) (xs : List ℕ) → body (cell_of (verdict_of a)) xs ≡ body a xs
+unfolding body body_key
+body_cell zero xs = refl
+body_cell (suc zero) xs = refl
+body_cell (suc (suc zero)) xs = refl
+body_cell (suc (suc (suc a))) xs =
+    body-listed 3 xs (omega arith) ∙ ap (λ (l : List ℕ). body_key 3 ++ l ++ 10 ∷ []) (listed_cell a 0 xs)
+    ∙ ap (λ (l : List ℕ). l ++ listed (suc (suc (suc a))) 0 xs ++ 10 ∷ []) (key_final 3 (omega arith) ∙ sym (key_final (suc (suc (suc a))) (omega arith)))
+    ∙ sym (body-listed (suc (suc (suc a))) xs (omega arith))
+
+pub solve_printed : (o : List ℕ) (v : Verdict) (n : ℕ) (xs : List ℕ) → v ≡ verdict_of (get_or o 0 0) → n ≡ get_or o 1 0 → xs ≡ take (get_or o 2 0) (drop 3 o)
+    → verdict (cell_of v) ++ numbered (bytes "conflicts=") n ++ body (cell_of v) xs ≡ printed_solve o
+unfolding printed_solve
+solve_printed o v n xs e f g = rw (e, f, g, verdict_cell (get_or o 0 0), body_cell (get_or o 0 0) (take (get_or o 2 0) (drop 3 o)))
 
 -- ---- a record
 
@@ -159,64 +181,66 @@ pub trailing-clause : (kind : ℕ) → (kind ≡ solve_kind → ⊥) → trailin
 unfolding trailing limits
 trailing-clause kind e = rw (ne_eqb kind solve_kind e, limits)
 
+-- a number means the same as that of the kind that it stands for
+
+pub record_kind : (k line : ℕ) (out : List ℕ) → printed_record (number (kind_of k)) line out ≡ printed_record k line out
+unfolding printed_record
+record_kind zero line out = refl
+record_kind (suc zero) line out = refl
+record_kind (suc (suc zero)) line out = refl
+record_kind (suc (suc (suc k))) line out = record_clause 1 line out (omega arith) ∙ sym (record_clause (suc (suc (suc k))) line out (omega arith))
+
+pub cells_kind : (k : ℕ) (out : List ℕ) → answer_cells (number (kind_of k)) out ≡ answer_cells k out
+unfolding answer_cells
+cells_kind zero out = refl
+cells_kind (suc zero) out = refl
+cells_kind (suc (suc zero)) out = refl
+cells_kind (suc (suc (suc k))) out = cells-clause 1 out (omega arith) ∙ sym (cells-clause (suc (suc (suc k))) out (omega arith))
+
+trailing_kind : (k : ℕ) → trailing (number (kind_of k)) ≡ trailing k
+unfolding trailing limits
+trailing_kind zero = refl
+trailing_kind (suc zero) = refl
+trailing_kind (suc (suc zero)) = refl
+trailing_kind (suc (suc (suc k))) = trailing-clause 1 (omega arith) ∙ sym (trailing-clause (suc (suc (suc k))) (omega arith))
+
 -- ---- all records
 
-pub kinds_skip : (skip : ℕ) (l : List ℕ) → kinds skip l ≡ kinds 0 (drop skip l)
+kinds_skip : (skip : ℕ) (l : List ℕ) → kinds skip l ≡ kinds 0 (drop skip l)
 unfolding kinds
 kinds_skip zero l = refl
 kinds_skip (suc skip) [] = refl
 kinds_skip (suc skip) (x ∷ xs) = kinds_skip skip xs
 
-pub kinds_turn : (script : List ℕ) (p : ℕ) → p < length script
-    → kinds 0 (drop p script) ≡ get_or script p 0 ∷ kinds 0 (drop (p + 2 + get_or script (p + 1) 0 + trailing (get_or script p 0)) script)
-unfolding kinds
-kinds_turn script p h =
-    let kind = get_or script p 0 in
-    let rest = drop (suc p) script in
-    let g : get_or rest 0 0 ≡ get_or script (p + 1) 0 = get_or-drop (suc p) script 0 0 ∙ ap (λ (k : ℕ). get_or script k 0) (omega arith) in
-    let n : suc p + suc (get_or rest 0 0 + trailing kind) ≡ p + 2 + get_or script (p + 1) 0 + trailing kind = omega arith in
-    ap (kinds 0) (drop-cons script p 0 h)
-    ∙ ap (λ (ks : List ℕ). kind ∷ ks)
-    (kinds_skip (suc (get_or rest 0 0 + trailing kind)) rest ∙ ap (kinds 0) (drop-drop (suc (get_or rest 0 0 + trailing kind)) (suc p) script ∙ ap (λ (k : ℕ). drop k script) n))
+pub records_none : (records lines out : List ℕ) → length records ≡ 0 → printed_records (kinds 0 records) lines out ≡ []
+unfolding kinds printed_records
+records_none [] lines out e = refl
+records_none (x ∷ xs) lines out e = absurd (omega (arith, e))
 
-pub kinds_end : (script : List ℕ) (p : ℕ) → length script ≤ p → kinds 0 (drop p script) ≡ []
-unfolding kinds
-kinds_end script p h = rw (drop_of_length-le script h)
+pub records_more : (k : ℕ) (tail lines out : List ℕ) (line n m : ℕ) → line ≡ get_or lines 0 0 → n ≡ 1 + get_or tail 0 0 + trailing (number (kind_of k))
+    → m ≡ answer_cells (number (kind_of k)) out
+    → printed_records (kinds 0 (k ∷ tail)) lines out
+    ≡ printed_record (number (kind_of k)) line out ++ printed_records (kinds 0 (drop n tail)) (drop 1 lines) (drop m out)
+unfolding kinds printed_records
+records_more k tail lines out line n m e f g =
+    let n' : suc (get_or tail 0 0 + trailing k) ≡ n = omega (arith, trailing_kind k) in
+    ap (λ (ks : List ℕ). printed_record k (get_or lines 0 0) out ++ printed_records ks (drop 1 lines) (drop (answer_cells k out) out))
+    (kinds_skip (suc (get_or tail 0 0 + trailing k)) tail ∙ ap (λ (i : ℕ). kinds 0 (drop i tail)) n')
+    ∙ ap (λ (i : ℕ). printed_record k (get_or lines 0 0) out ++ printed_records (kinds 0 (drop n tail)) (drop 1 lines) (drop i out)) (sym (g ∙ cells_kind k out))
+    ∙ ap (λ (l : List ℕ). l ++ printed_records (kinds 0 (drop n tail)) (drop 1 lines) (drop m out)) (sym (record_kind k line out ∙ ap (λ (i : ℕ). printed_record k i out) e))
 
-module _ (script lines out : List ℕ) (p i q : ℕ) where
-  -- what the records from a place on print
-  abbrev pub from_place : List ℕ
-  from_place = printed_records (kinds 0 (drop p script)) (drop i lines) (drop q out)
+pub rest_taken : (xs : List ℕ) → take (length xs - 1) (drop 1 xs) ≡ drop 1 xs
+rest_taken xs = take_all (length xs - 1) (drop 1 xs) (omega (arith, length-drop 1 xs))
 
-pub records_turn : (script lines out : List ℕ) (p i q p' q' kind : ℕ) → p < length script → kind ≡ get_or script p 0
-    → p' ≡ p + 2 + get_or script (p + 1) 0 + trailing kind → q' ≡ min (q + answer_cells kind (drop q out)) (length out)
-    → from_place script lines out p i q ≡ printed_record kind (get_or lines i 0) (drop q out) ++ from_place script lines out p' (i + 1) q'
-unfolding printed_records
-records_turn script lines out p i q p' q' kind h k e f =
-    let a : kinds 0 (drop p script) ≡ kind ∷ kinds 0 (drop p' script) = rw (e, k) (kinds_turn script p h) in
-    let b : get_or (drop i lines) 0 0 ≡ get_or lines i 0 = get_or-drop i lines 0 0 ∙ ap (λ (n : ℕ). get_or lines n 0) (add-zero i) in
-    let c : drop 1 (drop i lines) ≡ drop (i + 1) lines = drop-drop 1 i lines in
-    let d : drop (answer_cells kind (drop q out)) (drop q out) ≡ drop q' out =
-    drop-drop (answer_cells kind (drop q out)) q out ∙ sym (ap (λ (n : ℕ). drop n out) f ∙ drop_clipped (q + answer_cells kind (drop q out)) out) in
-    rw (a, b, c, d)
+-- the same, where the records that are left are named
+pub records_step : (records lines out : List ℕ) {tail records' lines' out' : List ℕ} {kind : Kind} {line n m : ℕ} → 1 ≤ length records → tail ≡ drop 1 records
+    → kind ≡ kind_of (get_or records 0 0) → line ≡ get_or lines 0 0 → n ≡ 1 + get_or tail 0 0 + trailing (number kind) → m ≡ answer_cells (number kind) out
+    → records' ≡ drop n tail → lines' ≡ drop 1 lines → out' ≡ drop m out
+    → printed_records (kinds 0 records) lines out ≡ printed_record (number kind) line out ++ printed_records (kinds 0 records') lines' out'
+records_step [] lines out h a b c d e f g i = absurd (omega arith)
+records_step (k ∷ ks) lines out {line = line} {n = n} {m = m} h a b c d e f g i =
+    rw (f, g, i, a, b) (records_more k ks lines out line n m c (rw (a, b) at d) (rw b at e))
 
-pub records_end : (script lines out : List ℕ) (p i q : ℕ) → length script ≤ p → from_place script lines out p i q ≡ []
-unfolding printed_records
-records_end script lines out p i q h = rw (kinds_end script p h)
-
-pub from_start : (script lines out : List ℕ) → from_place script lines out header_cells 0 0 ≡ printed script lines out
+pub from_start : (script lines out : List ℕ) → printed_records (kinds 0 (drop header_cells script)) lines out ≡ printed script lines out
 unfolding printed
 from_start script lines out = ap (λ (ks : List ℕ). printed_records ks lines out) (sym (kinds_skip header_cells script))
-
-pub left_record : {s : List ℕ} {at : ℕ} {first : List ℕ} {from : ℕ} {all s' : List ℕ} {r : ℕ} (script lines out rest : List ℕ) (p i q p' q' kind line : ℕ)
-    → Left s at (from_place script lines out p i q) first from all → Written s at (printed_record kind line rest) s' r
-    → p < length script → kind ≡ get_or script p 0 → line ≡ get_or lines i 0 → rest ≡ drop q out
-    → p' ≡ p + 2 + get_or script (p + 1) 0 + trailing kind → q' ≡ min (q + answer_cells kind rest) (length out)
-    → Left s' r (from_place script lines out p' (i + 1) q') first from all
-left_record script lines out rest p i q p' q' kind line l w h k j d e f =
-    let f' : q' ≡ min (q + answer_cells kind (drop q out)) (length out) = rw d at f in
-    let t = records_turn script lines out p i q p' q' kind h k e f' in
-    let g : printed_record kind (get_or lines i 0) (drop q out) ++ from_place script lines out p' (i + 1) q' ≡ printed_record kind line rest ++ from_place script lines out p' (i + 1) q' =
-    rw (j, d) in
-    left_more {xs = printed_record kind line rest} {ys = from_place script lines out p' (i + 1) q'}
-    (left_as (printed_record kind line rest ++ from_place script lines out p' (i + 1) q') l (t ∙ g)) w

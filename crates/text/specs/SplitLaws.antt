@@ -1,53 +1,15 @@
--- The definitions of Split at a place of a list, as the code goes through it.
-use Rattle.std.specs.Prelude.{ℕ, suc, ◌+◌, ◌-◌, ◌≤◌, ◌<◌, ◌≡◌, refl, Bool, true, false, List, [], ◌∷◌, length, get_or, take, drop, eqb, ltb, leb}
-use Rattle.std.proofs.Common.{ap, ◌∙◌, arith, add-one, length-drop, drop_of_length-le, drop-cons, drop-drop, eq-eqb, ne_eqb, lt-ltb, le-ltb, le-leb}
-use Rattle.std.proofs.Math.Decide.{ℕ_discrete, dec_lt}
+-- The definitions of Split by the first piece and what stands behind it, as the code cuts a text.
+use Rattle.std.specs.List.{position_or_len}
+use Rattle.std.specs.Option.{unwrap_or}
+use Rattle.std.specs.Cmp.Lexicographic.{pointwise}
+use Rattle.std.specs.Prelude.{ℕ, suc, ◌+◌, ◌≤◌, ◌<◌, ◌≡◌, refl, Bool, true, false, cond, nat_eq, Option, None, Some, MatchOption, List, [], ◌∷◌, ◌++◌, length, take, drop, eqb, ltb}
+use Rattle.std.proofs.Common.{sym, ap, ◌∙◌, arith, take_all, ltb-false, length-append, eq-eqb, ne_eqb, lt-ltb, le-ltb}
+use Rattle.std.proofs.Math.Decide.{ℕ_discrete}
 use Rattle.std.proofs.Math.Dec.{leb-suc-suc, leb-zero}
-use Rattle.std.proofs.lemmas.Bool.{lt-leb}
+use Rattle.std.proofs.Math.Seq.{drop_at}
+use denote.Ref.{Bor}
 use Rattle.text.specs.Bytes.{newline, blank}
 use Rattle.text.specs.Split.{push, pieces, lines, words, before, starts}
-
--- ---- the bytes before a byte
-
-pub before_end : (s i : ℕ) (l : List ℕ) → length l ≤ i → before s (drop i l) ≡ []
-unfolding before
-before_end s i l h = rw (drop_of_length-le l h)
-
-pub before_found : (s i : ℕ) (l : List ℕ) → i < length l → get_or l i 0 ≡ s → before s (drop i l) ≡ []
-unfolding before
-before_found s i l h e = rw (drop-cons l i 0 h, before, eq-eqb (get_or l i 0) s e)
-
-pub before_past : (s i : ℕ) (l : List ℕ) → i < length l → (get_or l i 0 ≡ s → ⊥) → before s (drop i l) ≡ get_or l i 0 ∷ before s (drop (i + 1) l)
-unfolding before
-before_past s i l h e = rw (add-one, drop-cons l i 0 h, before, ne_eqb (get_or l i 0) s e)
-
-pub before_le : (s : ℕ) (l : List ℕ) → length (before s l) ≤ length l
-unfolding before
-before_le s [] = omega arith
-before_le s (b ∷ bs) = go (eqb b s) refl (before_le s bs)
-  where
-    go : (t : Bool) → eqb b s ≡ t → length (before s bs) ≤ length bs → length (before s (b ∷ bs)) ≤ suc (length bs)
-    go true e ih = rw (e, before) (omega arith)
-    go false e ih = rw (e, before) (omega arith)
-
--- ---- a key
-
-pub starts_end : (i : ℕ) (key l : List ℕ) → length key ≤ i → starts (drop i key) l ≡ true
-unfolding starts
-starts_end i key l h = rw (drop_of_length-le key h)
-
-pub starts_short : (i : ℕ) (key l : List ℕ) → i < length key → length l ≤ i → starts (drop i key) (drop i l) ≡ false
-unfolding starts
-starts_short i key l h k = rw (drop-cons key i 0 h, drop_of_length-le l k)
-
-pub starts_other : (i : ℕ) (key l : List ℕ) → i < length key → i < length l → (get_or key i 0 ≡ get_or l i 0 → ⊥) → starts (drop i key) (drop i l) ≡ false
-unfolding starts
-starts_other i key l h k e = rw (drop-cons key i 0 h, drop-cons l i 0 k, starts, ne_eqb (get_or key i 0) (get_or l i 0) e)
-
-pub starts_turn : (i : ℕ) (key l : List ℕ) → i < length key → i < length l → get_or key i 0 ≡ get_or l i 0
-    → starts (drop i key) (drop i l) ≡ starts (drop (i + 1) key) (drop (i + 1) l)
-unfolding starts
-starts_turn i key l h k e = rw (add-one, drop-cons key i 0 h, drop-cons l i 0 k, starts, eq-eqb (get_or key i 0) (get_or l i 0) e)
 
 -- ---- pieces
 
@@ -107,83 +69,140 @@ step s last h b (x ∷ xs) = go (step s last h x xs) (ℕ_discrete b s)
     go ih (yes e) = step_cut s last b (x ∷ xs) e
     go ih (no e) = step_on s last b (x ∷ xs) e ih
 
-pub take_before : (s : ℕ) (l : List ℕ) → take (length (before s l)) l ≡ before s l
-unfolding before
-take_before s [] = refl
-take_before s (b ∷ bs) = go (eqb b s) refl (take_before s bs)
-  where
-    go : (t : Bool) → eqb b s ≡ t → take (length (before s bs)) bs ≡ before s bs → take (length (before s (b ∷ bs))) (b ∷ bs) ≡ before s (b ∷ bs)
-    go true e ih = rw (e, before)
-    go false e ih = rw (e, before, ih)
+-- ---- a text that is cut at its first s
 
--- ---- lines from a place on
+-- what stands behind the first s, if it is found
+abbrev pub Cut : ℕ → List ℕ → List ℕ → Option (Bor (List ℕ)) → Type 0
+Cut s l first o = MatchOption o (first ≡ l) (λ x. l ≡ first ++ s ∷ x.now)
 
--- behind the last line there are none
-lines_rest : (l : List ℕ) → rest newline [] l ≡ lines (drop (suc (length (before newline l))) l)
-unfolding rest_at pieces
-lines_rest l = go (dec_lt (length (before newline l)) (length l))
-  where
-    go : Dec (length (before newline l) < length l) → rest newline [] l ≡ lines (drop (suc (length (before newline l))) l)
-    go (yes h) = rw (rest_at, lt-ltb (length (before newline l)) (length l) h)
-    go (no h) =
-        let k : length l ≤ suc (length (before newline l)) = omega arith in
-        rw (rest_at, le-ltb (length (before newline l)) (length l) (omega arith), drop_of_length-le l k)
+abbrev pieces_of : ℕ → List (List ℕ) → Option (Bor (List ℕ)) → List (List ℕ)
+pieces_of s last None = []
+pieces_of s last (Some x) = pieces s last x.now
 
-lines_step : (l : List ℕ) → 0 < length l → lines l ≡ before newline l ∷ lines (drop (suc (length (before newline l))) l)
-unfolding push Alone
-lines_step [] h = absurd (omega arith)
-lines_step (b ∷ bs) h = step newline [] (λ x. refl) b bs ∙ ap (λ (r : List (List ℕ)). before newline (b ∷ bs) ∷ r) (lines_rest (b ∷ bs))
+cons_append : (xs : List ℕ) (y : ℕ) (ys : List ℕ) → xs ++ y ∷ ys ≡ (xs ++ y ∷ []) ++ ys
+cons_append [] y ys = refl
+cons_append (x ∷ xs) y ys = ap (λ (l : List ℕ). x ∷ l) (cons_append xs y ys)
 
-pub lines_turn : (text : List ℕ) (at end : ℕ) → at < length text → end ≡ at + length (before newline (drop at text))
-    → lines (drop at text) ≡ take (end - at) (drop at text) ∷ lines (drop (end + 1) text)
-lines_turn text at end h e =
-    let n = length (before newline (drop at text)) in
-    let p : end - at ≡ n = omega arith in
-    let q : end + 1 ≡ at + suc n = omega arith in
-    rw (p, q, take_before newline (drop at text), ← drop-drop (suc n) at text) (lines_step (drop at text) (simp length-drop (omega arith)))
+rest_of : (s : ℕ) (last : List (List ℕ)) (l first : List ℕ) (o : Option (Bor (List ℕ))) → first ≡ before s l → Cut s l first o → rest s last l ≡ pieces_of s last o
+unfolding rest_at
+rest_of s last l first None e c = let h : length l ≤ length (before s l) = omega (arith, ap length e, ap length c) in rw (rest_at, le-ltb (length (before s l)) (length l) h)
+rest_of s last l first (Some x) e c =
+    let n : length l ≡ length first + suc (length x.now) = ap length c ∙ length-append first (s ∷ x.now) in
+    let h : length (before s l) < length l = omega (arith, ap length e) in
+    let d : drop (suc (length (before s l))) l ≡ x.now =
+    ap (λ (k : List ℕ). drop (suc (length k)) l) (sym e) ∙ ap (drop (suc (length first))) (c ∙ cons_append first s x.now) ∙ drop_at (first ++ s ∷ []) x.now (suc (length first)) (length-append first (s ∷ []) ∙ omega arith) in
+    rw (rest_at, lt-ltb (length (before s l)) (length l) h, d)
 
--- ---- words from a place on; none from behind the line's end
-
-unfoldable pub words_from : List ℕ → ℕ → List (List ℕ)
-words_from line i = elim (leb i (length line)) [ true ↦ words (drop i line) | false ↦ [] ]
-
-pub words_in : (line : List ℕ) (i : ℕ) → i ≤ length line → words_from line i ≡ words (drop i line)
-unfolding words_from
-words_in line i h = rw (le-leb i (length line) h, words_from)
-
-pub words_end : (line : List ℕ) (i : ℕ) → length line < i → words_from line i ≡ []
-unfolding words_from
-words_end line i h = rw (lt-leb i (length line) h, words_from)
+-- the words of what is left of a line, if anything is
+abbrev pub words_of : Option (Bor (List ℕ)) → List (List ℕ)
+words_of None = []
+words_of (Some x) = words x.now
 
 words_step : (l : List ℕ) → words l ≡ before blank l ∷ rest blank ([] ∷ []) l
 unfolding pieces before rest_at push Alone
 words_step [] = refl
 words_step (b ∷ bs) = step blank ([] ∷ []) (λ x. refl) b bs
 
-words_rest : (line : List ℕ) (i end : ℕ) → i ≤ length line → end ≡ i + length (before blank (drop i line))
-    → rest blank ([] ∷ []) (drop i line) ≡ words_from line (end + 1)
-unfolding rest_at
-words_rest line i end h e = go (dec_lt end (length line))
+pub words_cut : (l first : List ℕ) (o : Option (Bor (List ℕ))) → first ≡ before blank l → Cut blank l first o → words l ≡ first ∷ words_of o
+words_cut l first o e c = words_step l ∙ go o (rest_of blank ([] ∷ []) l first o e c)
   where
-    n : ℕ
-    n = length (before blank (drop i line))
+    go : (p : Option (Bor (List ℕ))) → rest blank ([] ∷ []) l ≡ pieces_of blank ([] ∷ []) p → before blank l ∷ rest blank ([] ∷ []) l ≡ first ∷ words_of p
+    go None q = rw (q, e)
+    go (Some x) q = rw (q, e)
 
-    go : Dec (end < length line) → rest blank ([] ∷ []) (drop i line) ≡ words_from line (end + 1)
-    go (yes k) =
-        let m : length (drop i line) ≡ length line - i = length-drop i line in
-        let q : end + 1 ≡ i + suc n = omega arith in
-        rw (rest_at, lt-ltb n (length (drop i line)) (omega arith), words_in line (end + 1) (omega arith), q, drop-drop (suc n) i line)
-    go (no k) =
-        let m : length (drop i line) ≡ length line - i = length-drop i line in
-        rw (rest_at, le-ltb n (length (drop i line)) (omega arith), words_end line (end + 1) (omega arith))
+-- the lines of what is left of a text
+abbrev pub text_of : Option (Bor (List ℕ)) → List ℕ
+text_of None = []
+text_of (Some x) = x.now
 
-pub words_turn : (line : List ℕ) (i end : ℕ) → i ≤ length line → end ≡ i + length (before blank (drop i line))
-    → words_from line i ≡ take (end - i) (drop i line) ∷ words_from line (end + 1)
-words_turn line i end h e =
-    let n = length (before blank (drop i line)) in
-    let p : end - i ≡ n = omega arith in
-    rw (words_in line i h, ← words_rest line i end h e, p, take_before blank (drop i line)) (words_step (drop i line))
+lines_step : (l : List ℕ) → 0 < length l → lines l ≡ before newline l ∷ rest newline [] l
+unfolding push Alone
+lines_step [] h = absurd (omega arith)
+lines_step (b ∷ bs) h = step newline [] (λ x. refl) b bs
 
--- the place that `find` gives is no later than the end
-pub found_le : (s : ℕ) (l : List ℕ) (i end : ℕ) → i ≤ length l → end ≡ i + length (before s (drop i l)) → end ≤ length l
-found_le s l i end h e = omega (arith, before_le s (drop i l), length-drop i l)
+pub lines_cut : (l first : List ℕ) (o : Option (Bor (List ℕ))) → 0 < length l → first ≡ before newline l → Cut newline l first o → lines l ≡ first ∷ lines (text_of o)
+unfolding pieces
+lines_cut l first o h e c = lines_step l h ∙ go o (rest_of newline [] l first o e c)
+  where
+    go : (p : Option (Bor (List ℕ))) → rest newline [] l ≡ pieces_of newline [] p → before newline l ∷ rest newline [] l ≡ first ∷ lines (text_of p)
+    go None q = rw (q, e, pieces)
+    go (Some x) q = rw (q, e)
+
+-- ---- the place of the first s
+
+one_taken : (n b : ℕ) (bs : List ℕ) → take (1 + n) (b ∷ bs) ≡ b ∷ take n bs
+one_taken n b bs = let e : 1 + n ≡ suc n = omega arith in ap (λ (k : ℕ). take k (b ∷ bs)) e
+
+pub before_prefix : (s : ℕ) (l : List ℕ) → take (position_or_len (λ b. eqb b s) l) l ≡ before s l
+unfolding before
+before_prefix s [] = refl
+before_prefix s (b ∷ bs) = go (eqb b s) refl (before_prefix s bs)
+  where
+    go : (t : Bool) → eqb b s ≡ t → take (position_or_len (λ c. eqb c s) bs) bs ≡ before s bs → take (position_or_len (λ c. eqb c s) (b ∷ bs)) (b ∷ bs) ≡ before s (b ∷ bs)
+    go true e ih = rw (e, before)
+    go false e ih = rw (e, before) (one_taken (position_or_len (λ c. eqb c s) bs) b bs ∙ ap (λ (k : List ℕ). b ∷ k) ih)
+
+pub before_at : (s : ℕ) (l : List ℕ) (i : ℕ) → Some i ≡ cond (ltb (position_or_len (λ b. eqb b s) l) (length l)) (Some (position_or_len (λ b. eqb b s) l)) None → take i l ≡ before s l
+before_at s l i e = go (ltb (position_or_len (λ b. eqb b s) l) (length l)) e
+  where
+    go : (t : Bool) → Some i ≡ cond t (Some (position_or_len (λ b. eqb b s) l)) None → take i l ≡ before s l
+    go true q = let z : i ≡ position_or_len (λ b. eqb b s) l = cc in rw z (before_prefix s l)
+    go false q = cc
+
+pub before_none : (s : ℕ) (l : List ℕ) → None ≡ cond (ltb (position_or_len (λ b. eqb b s) l) (length l)) (Some (position_or_len (λ b. eqb b s) l)) None → l ≡ before s l
+before_none s l e = go (ltb (position_or_len (λ b. eqb b s) l) (length l)) refl e
+  where
+    go : (t : Bool) → ltb (position_or_len (λ b. eqb b s) l) (length l) ≡ t → None ≡ cond t (Some (position_or_len (λ b. eqb b s) l)) None → l ≡ before s l
+    go true p q = cc
+    go false p q = sym (take_all (position_or_len (λ b. eqb b s) l) l (ltb-false (position_or_len (λ b. eqb b s) l) (length l) p)) ∙ before_prefix s l
+
+-- ---- a line behind its key
+
+-- what is left of a line without its key, if it starts with it
+abbrev pub Stripped : List ℕ → List ℕ → Option (Bor (List ℕ)) → Type 0
+Stripped key line o = MatchOption o (pointwise nat_eq (take (length key) line) key ≡ false)
+    (λ x. (pointwise nat_eq (take (length key) line) key ≡ true) × (x.now ≡ drop (length key) line) × (length x.now + length key ≡ length line))
+
+starts_as : (key line : List ℕ) → pointwise nat_eq (take (length key) line) key ≡ starts key line
+unfolding starts
+starts_as [] line = refl
+starts_as (k ∷ ks) [] = refl
+starts_as (k ∷ ks) (b ∷ bs) = go (ℕ_discrete k b) (starts_as ks bs)
+  where
+    go : Dec (k ≡ b) → pointwise nat_eq (take (length ks) bs) ks ≡ starts ks bs → pointwise nat_eq (take (length (k ∷ ks)) (b ∷ bs)) (k ∷ ks) ≡ starts (k ∷ ks) (b ∷ bs)
+    go (yes e) ih = rw (eq-eqb k b e, eq-eqb b k (sym e), starts) ih
+    go (no e) ih = rw (ne_eqb k b e, ne_eqb b k (λ f. e (sym f)), starts)
+
+pub stripped_none : (key line : List ℕ) (o : Option (Bor (List ℕ))) → Stripped key line o → o ≡ None → starts key line ≡ false
+stripped_none key line None s e = sym (starts_as key line) ∙ s
+stripped_none key line (Some x) s e = cc
+
+pub stripped_some : (key line : List ℕ) (o : Option (Bor (List ℕ))) (x : Bor (List ℕ)) → Stripped key line o → o ≡ Some x → (starts key line ≡ true) × (x.now ≡ drop (length key) line)
+stripped_some key line None x s e = absurd (cc)
+stripped_some key line (Some y) x s e = let z : y ≡ x = cc in (sym (starts_as key line) ∙ s.0, ap (λ (b : Bor (List ℕ)). b.now) (sym z) ∙ s.1)
+
+-- ---- what is left of a text
+
+pub text_left : (o : Option (Bor (List ℕ))) (d : Bor (List ℕ)) → d.now ≡ [] → (unwrap_or o d).now ≡ text_of o
+text_left None d e = e
+text_left (Some x) d e = refl
+
+pub text_shorter : (l first : List ℕ) (o : Option (Bor (List ℕ))) → 0 < length l → Cut newline l first o → length (text_of o) < length l
+text_shorter l first None h c = h
+text_shorter l first (Some x) h c = omega (arith, ap length c, length-append first (newline ∷ x.now))
+
+pub no_lines : (l : List ℕ) → length l ≡ 0 → lines l ≡ []
+unfolding pieces
+no_lines [] e = refl
+no_lines (b ∷ bs) e = absurd (omega arith)
+
+-- std's word for the same
+pub starts_with_as : (key line : List ℕ) → pointwise nat_eq key (take (length key) line) ≡ starts key line
+unfolding starts
+starts_with_as [] line = refl
+starts_with_as (k ∷ ks) [] = refl
+starts_with_as (k ∷ ks) (b ∷ bs) = go (ℕ_discrete k b) (starts_with_as ks bs)
+  where
+    go : Dec (k ≡ b) → pointwise nat_eq ks (take (length ks) bs) ≡ starts ks bs → pointwise nat_eq (k ∷ ks) (take (length (k ∷ ks)) (b ∷ bs)) ≡ starts (k ∷ ks) (b ∷ bs)
+    go (yes e) ih = rw (eq-eqb k b e, starts) ih
+    go (no e) ih = rw (ne_eqb k b e, starts)

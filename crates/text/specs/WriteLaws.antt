@@ -1,17 +1,23 @@
 -- Bytes written from a place on, as far as there is room.
-use Rattle.std.specs.Prelude.{ℕ, zero, suc, ◌+◌, ◌-◌, ◌/◌, ◌%◌, ◌≤◌, ◌<◌, min, ◌≡◌, refl, List, [], ◌∷◌, ◌++◌, length, get_or, drop, set}
-use Rattle.std.proofs.Common.{sym, ap, ◌∙◌, append-nil, arith, add-one, length-append, drop_of_length-le, drop-cons, lt-ltb, le-ltb}
+use Rattle.std.specs.Prelude.{ℕ, zero, suc, ◌+◌, ◌-◌, ◌/◌, ◌%◌, ◌≤◌, ◌<◌, min, ◌≡◌, refl, List, [], ◌∷◌, ◌++◌, length, get_or, take, drop, set}
+use Rattle.std.proofs.Common.{sym, ap, subst, ◌∙◌, append_assoc, arith, add-zero, length-append, length-take-le, take-append-drop, drop_of_length-le, drop-drop, lt-ltb, le-ltb}
 use Rattle.std.proofs.Math.Decide.{dec_lt}
+use Rattle.std.proofs.lemmas.List.{ext_get_or}
 use Rattle.std.proofs.lemmas.List.Edits.{sets, sets-eq}
 use Rattle.std.proofs.Math.Seq.{length-sets, set_out}
 use Rattle.text.specs.Number.{digits_of, shown}
 use Rattle.text.specs.Format.{lines_from}
-use Rattle.text.specs.PutLaws.{sets-append}
 
 -- the bytes xs written from `at` on, and the place behind them, both up to the slice's end
 pub record Written (before : List ℕ) (at : ℕ) (xs : List ℕ) (after : List ℕ) (r : ℕ) : Type 0 where
   pub slice : after ≡ sets before at xs
   pub end : r ≡ min (length before) (at + length xs)
+
+sets-append : (s : List ℕ) (i : ℕ) (xs ys : List ℕ) → sets s i (xs ++ ys) ≡ sets (sets s i xs) (i + length xs) ys
+sets-append s i [] ys = rw (add-zero i)
+sets-append s i (x ∷ xs) ys =
+    let q : i + suc (length xs) ≡ suc i + length xs = omega arith in
+    rw q (sets-append (set s i x) (suc i) xs ys)
 
 pub sets_out : (s : List ℕ) (i : ℕ) (xs : List ℕ) → length s ≤ i → sets s i xs ≡ s
 sets_out s i [] h = refl
@@ -55,6 +61,31 @@ put_one s at b h = record { slice = refl; end = omega arith }
 pub put_none : (s : List ℕ) (at b : ℕ) → at ≡ length s → Written s at (b ∷ []) s at
 put_none s at b h = record { slice = sym (set_out s at b (omega arith)); end = omega arith }
 
+-- as many bytes as there is room for, copied behind `at`
+pub written_part : (s : List ℕ) (at n : ℕ) (xs : List ℕ) → at ≤ length s → n ≡ min (length xs) (length s - at)
+    → Written s at xs (take at s ++ take n xs ++ drop (at + n) s) (at + n)
+written_part s at n xs h e =
+    let l : length (take n xs) ≡ n = length-take-le n xs (omega arith) in
+    let w : sets s at (take n xs) ≡ take at s ++ take n xs ++ drop (at + n) s =
+    sets-eq (take n xs) s at (omega arith) ∙ ap (λ (k : ℕ). take at s ++ take n xs ++ drop (at + k) s) l in
+    let all : sets s at xs ≡ sets (sets s at (take n xs)) (at + n) (drop n xs) =
+    ap (sets s at) (sym (take-append-drop n xs)) ∙ sets-append s at (take n xs) (drop n xs) ∙ ap (λ (k : ℕ). sets (sets s at (take n xs)) (at + k) (drop n xs)) l in
+    record { slice = sym (all ∙ behind (dec_lt n (length xs)) ∙ w); end = omega arith }
+  where
+    behind : Dec (n < length xs) → sets (sets s at (take n xs)) (at + n) (drop n xs) ≡ sets s at (take n xs)
+    behind (yes k) = sets_out (sets s at (take n xs)) (at + n) (drop n xs) (omega (arith, length-sets s at (take n xs)))
+    behind (no k) = ap (sets (sets s at (take n xs)) (at + n)) (drop_of_length-le xs (omega arith))
+
+pub written_copied : {s xs mid after : List ℕ} {at n : ℕ} → at ≤ length s → n ≡ min (length xs) (length s - at) → mid ≡ take n xs
+    → after ≡ take at s ++ (mid ++ drop (at + n - at) (drop at s)) → Written s at xs after (at + n)
+written_copied {s} {xs} {mid} {after} {at} {n} h e m a =
+    let k : at + (at + n - at) ≡ at + n = omega arith in
+    subst (λ (t : List ℕ). Written s at xs t (at + n))
+    (sym
+    (a ∙ ap (λ (t : List ℕ). take at s ++ (t ++ drop (at + n - at) (drop at s))) m ∙ ap (λ (t : List ℕ). take at s ++ (take n xs ++ t)) (drop-drop (at + n - at) at s ∙ ap (λ (i : ℕ). drop i s) k)
+    ∙ sym (append_assoc (take at s) (take n xs) (drop (at + n) s))))
+    (written_part s at n xs h e)
+
 -- ---- digits
 
 digits_one : (t n : ℕ) → n < 10 → digits_of t n ≡ (48 + n) ∷ []
@@ -86,45 +117,6 @@ shown_more zero h = absurd (omega arith)
 shown_more (suc n) h =
     digits_more n (suc n) h ∙ ap (λ (xs : List ℕ). xs ++ (48 + suc n % 10) ∷ []) (digits_enough n (suc n / 10) (suc n / 10) (omega arith) (omega arith))
 
--- ---- what is left to write: xs from `at` on gives what all of it gives from the first place on
-
-pub record Left (s : List ℕ) (at : ℕ) (xs first : List ℕ) (from : ℕ) (all : List ℕ) : Type 0 where
-  pub same : sets s at xs ≡ sets first from all
-  pub end : min (length s) (at + length xs) ≡ min (length first) (from + length all)
-  pub long : length s ≡ length first
-  pub inside : at ≤ length s
-
-pub left_all : (s : List ℕ) (at : ℕ) (xs : List ℕ) → at ≤ length s → Left s at xs s at xs
-left_all s at xs h = record { same = refl; end = refl; long = refl; inside = h }
-
-pub left_none : {s : List ℕ} {at : ℕ} {first : List ℕ} {from : ℕ} {all : List ℕ} → Left s at [] first from all → Written first from all s at
-left_none l = record { slice = l.same; end = omega (arith, l.end, l.inside) }
-
-pub left_as : {s : List ℕ} {at : ℕ} {xs first : List ℕ} {from : ℕ} {all : List ℕ} (ys : List ℕ) → Left s at xs first from all → xs ≡ ys → Left s at ys first from all
-left_as ys l e = rw e at l
-
-pub left_more : {s : List ℕ} {at : ℕ} {xs ys first : List ℕ} {from : ℕ} {all s' : List ℕ} {r : ℕ} → Left s at (xs ++ ys) first from all → Written s at xs s' r
-    → Left s' r ys first from all
-left_more {s} {at} {xs} {ys} {first} {from} {all} {s'} {r} l w =
-    let v : Written s' r ys (sets s' r ys) (min (length s') (r + length ys)) = record { slice = refl; end = refl } in
-    let j = joined w v in
-    record {
-      same = j.slice ∙ l.same;
-      end = j.end ∙ l.end;
-      long = written_long w ∙ l.long;
-      inside = written_in w;
-    }
-
--- a byte of a list
-pub left_byte : {s : List ℕ} {at i : ℕ} {first : List ℕ} {from : ℕ} {all s' : List ℕ} {r : ℕ} (xs : List ℕ) → i < length xs
-    → Left s at (drop i xs) first from all → Written s at (get_or xs i 0 ∷ []) s' r → Left s' r (drop (i + 1) xs) first from all
-left_byte {s} {at} {i} {first} {from} {all} {s'} {r} xs h l w =
-    left_more {xs = get_or xs i 0 ∷ []} {ys = drop (i + 1) xs} (left_as ((get_or xs i 0 ∷ []) ++ drop (i + 1) xs) l (drop-cons xs i 0 h ∙ ap (λ (k : ℕ). get_or xs i 0 ∷ drop k xs) (sym (add-one i)))) w
-
-pub left_end : {s : List ℕ} {at i : ℕ} {first : List ℕ} {from : ℕ} {all : List ℕ} (xs : List ℕ) → length xs ≤ i
-    → Left s at (drop i xs) first from all → Written first from all s at
-left_end xs h l = left_none (left_as [] l (drop_of_length-le xs h))
-
 -- ---- the lines of records
 
 lines_long : (line n : ℕ) → length (lines_from line n) ≡ n
@@ -132,20 +124,13 @@ unfolding lines_from
 lines_long line zero = refl
 lines_long line (suc n) = ap suc (lines_long (line + 1) n)
 
-pub left_line : {s first all : List ℕ} {from : ℕ} (i n : ℕ) → i < n → n ≡ length s → Left s i (lines_from (i + 5) (n - i)) first from all
-    → Left (set s i (i + 5)) (i + 1) (lines_from (i + 1 + 5) (n - (i + 1))) first from all
+lines_at : (line n i : ℕ) → i < n → get_or (lines_from line n) i 0 ≡ i + line
 unfolding lines_from
-left_line {s} {first} {all} {from} i n h e l =
-    let m : n - i ≡ suc (n - (i + 1)) = omega arith in
-    let k : i + 5 + 1 ≡ i + 1 + 5 = omega arith in
-    left_more {xs = (i + 5) ∷ []} {ys = lines_from (i + 1 + 5) (n - (i + 1))}
-    (left_as ((i + 5) ∷ lines_from (i + 1 + 5) (n - (i + 1))) l (ap (lines_from (i + 5)) m ∙ ap (λ (a : ℕ). (i + 5) ∷ lines_from a (n - (i + 1))) k))
-    (put_one s i (i + 5) (omega arith))
+lines_at line zero i h = absurd (omega arith)
+lines_at line (suc n) zero h = omega arith
+lines_at line (suc n) (suc i) h = lines_at (line + 1) n i (omega arith) ∙ omega arith
 
-pub lines_done : {s first : List ℕ} (i n : ℕ) → n ≤ i → n ≡ length first → Left s i (lines_from (i + 5) (n - i)) first 0 (lines_from 5 n) → s ≡ lines_from 5 n
-unfolding lines_from
-lines_done {s} {first} i n h e l =
-    let z : n - i ≡ 0 = omega arith in
-    let w : Written first 0 (lines_from 5 n) s i = left_none (left_as [] l (ap (lines_from (i + 5)) z)) in
-    let q : length first ≤ 0 + length (lines_from 5 n) = omega (arith, lines_long 5 n) in
-    w.slice ∙ sets-eq (lines_from 5 n) first 0 (omega (arith, lines_long 5 n)) ∙ ap (λ (t : List ℕ). lines_from 5 n ++ t) (drop_of_length-le first q) ∙ append-nil (lines_from 5 n)
+-- cells that are each the line of their record
+pub lines_are : (s : List ℕ) (n : ℕ) → length s ≡ n → ((k : ℕ) → k < n → get_or s k 0 ≡ k + 5) → s ≡ lines_from 5 n
+lines_are s n e h =
+    ext_get_or 0 s (lines_from 5 n) (e ∙ sym (lines_long 5 n)) (λ k l. h k (omega arith) ∙ sym (lines_at 5 n k (omega arith)))

@@ -1,7 +1,7 @@
 -- What comes of one watch: the outcomes of `look`, as cases with their facts.
 use Rattle.std.specs.Prelude.{◌≡◌, refl, ◌≢◌, ◌⊎◌, Bool, true, false, not, ◌&&◌, List, [], ◌∷◌, ℕ, suc, ◌≤◌, eqb, length, get_or, set, drop}
 use Rattle.std.proofs.Common.{sym, subst, inl, inr, not-suc-le-zero, le_of_suc-le-suc, arith, eq-eqb, ne_eqb}
-use Rattle.std.proofs.Math.Option.{Option, none, some}
+use Rattle.std.specs.Prelude.{Option, None as none, Some as some}
 use Rattle.model.specs.Lit.{neg, is_true, is_false}
 use Rattle.model.specs.State.{Watch, State, clause_at, with_watches, with_vars}
 use Rattle.model.specs.Store.{push_watch}

@@ -7,7 +7,7 @@ use mathlib.Core.List.Memᴰ.{append_right as in_right}
 use mathlib.Core.List.Memᴰ.{head as here}
 use mathlib.Core.List.Memᴰ.{not-nil}
 use mathlib.Core.List.Memᴰ.{tail as there}
-use Rattle.std.proofs.Math.Option.{Option, none}
+use Rattle.std.specs.Prelude.{Option, None as none}
 use Rattle.model.specs.Lit.{var, neg, undef_lit, is_true, is_false}
 use Rattle.lawbase.specs.Basics.{◌∈◌, Every, every_nil, every_cons, every_append, every_one, shrink, split}
 use Rattle.lawbase.specs.WellFormed.{Distinct}

@@ -4,7 +4,7 @@ use Rattle.std.proofs.Common.{ap, sym, ◌∙◌, subst, inl, inr, true≢false,
 use mathlib.Core.List.Memᴰ.{head as here}
 use mathlib.Core.List.Memᴰ.{tail as there}
 use mathlib.Core.List.{List, [], ◌∷◌, ◌++◌, reverse, append_assoc}
-use Rattle.std.proofs.Math.Option.{some}
+use Rattle.std.specs.Prelude.{Some as some}
 use Rattle.model.specs.Lit.{var, neg, no_reason, is_true, is_false}
 use Rattle.model.specs.Script.{Config}
 use Rattle.model.specs.State.{Watch, VarState, State, clause_at, with_watches, with_qhead}

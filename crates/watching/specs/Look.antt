@@ -1,6 +1,6 @@
 -- What comes of one watch: the outcomes of `look`, as cases with their facts.
 use Rattle.std.specs.Prelude.{◌≡◌, ◌⊎◌, true, false, List, ◌∷◌, ℕ, ◌+◌, ◌<◌, length, get_or, set}
-use Rattle.std.proofs.Math.Option.{Option, none, some}
+use Rattle.std.specs.Prelude.{Option, None as none, Some as some}
 use Rattle.model.specs.Lit.{neg, is_true, is_false}
 use Rattle.model.specs.State.{Watch, State, with_clauses, with_watches, with_vars}
 use Rattle.model.specs.Store.{push_watch}

@@ -1,6 +1,6 @@
 -- `propagate`: what its turns keep holds at the end; the queue is empty then, and the number of turns is enough.
 use Rattle.std.specs.Prelude.{◌≡◌, [], length, get_or}
-use Rattle.std.proofs.Math.Option.{none, some}
+use Rattle.std.specs.Prelude.{None as none, Some as some}
 use Prim.Native.Nat.{ℕ, suc, ◌+◌}
 use Rattle.model.specs.State.{State, with_qhead}
 use Rattle.model.specs.Propagate.{Propagated, visit}

@@ -1,6 +1,6 @@
 -- What `simplify` keeps of a sorted clause.
 use Rattle.std.specs.Prelude.{◌≡◌, ◌⊎◌, true, false, List, [], ◌++◌, ℕ, ◌≤◌}
-use Rattle.std.proofs.Math.Option.{Option, none, some}
+use Rattle.std.specs.Prelude.{Option, None as none, Some as some}
 use Rattle.model.specs.Lit.{var, neg, undef_lit, is_true, is_false}
 use Rattle.lawbase.specs.Basics.{◌∈◌, Every}
 use Rattle.lawbase.specs.WellFormed.{Distinct}

@@ -1,7 +1,7 @@
 -- A walk over the watches of p keeps what is well-formed; the list of p is what has stayed, and what is still to come.
 use Rattle.std.specs.Prelude.{◌≡◌, ℕ, ◌<◌, length}
 use mathlib.Core.List.{List, [], ◌∷◌, ◌++◌}
-use Rattle.std.proofs.Math.Option.{none, some}
+use Rattle.std.specs.Prelude.{None as none, Some as some}
 use Rattle.model.specs.Lit.{neg}
 use Rattle.model.specs.Script.{Config}
 use Rattle.model.specs.State.{Watch, State, clause_at, with_qhead}

@@ -1,10 +1,6 @@
 use mathlib.Core.Path.{ap, ◌∙◌}
 use Rattle.activity.specs.Activities.{activity, scaled, bump_over, bump_under}
-use lib.ListN.{length-set}
 use Rattle.activity.proofs.bump.Goals as goal
-
-pub shape_of-act-then-x : goal.shape_of-act-then-x
-shape_of-act-then-x c = c.rescale.auto.act ∙ simp length-set
 
 pub returns-then-x : goal.returns-then-x
 returns-then-x c =

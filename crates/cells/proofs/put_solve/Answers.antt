@@ -1,23 +1,28 @@
-use mathlib.Core.Path.{refl, ◌∙◌}
+use mathlib.Core.Path.{◌≡◌, refl, ◌∙◌, subst}
 use native.Mathlib.Omega.{arith}
-use Prim.Native.Nat.{◌+◌}
-use lib.ListN.{length, length-set}
+use Prim.Native.Nat.{ℕ, ◌+◌}
+use lib.ListN.{length, set}
 use lib.Seq.{paste}
+use denote.Enum.Declared.{tag_of}
 use Rattle.model.specs.Search.{cells}
+use Rattle.cells.specs.declared.Verdict.{Verdict}
+use Rattle.cells.specs.declared.Verdict.TheVariants.{True, False, Undef}
+use Rattle.cells.specs.contracts.Verdict.{the_type}
+use Rattle.cells.specs.Number.{verdict_cell}
 use Rattle.cells.specs.Paste.{paste_solve}
 use Rattle.cells.proofs.put_solve.Goals as goal
 
-pub bounds-out-at-2 : goal.bounds-out-at-2
-bounds-out-at-2 c = simp length-set (omega arith)
-
-pub bounds-out-at-3 : goal.bounds-out-at-3
-bounds-out-at-3 c = simp length-set (omega arith)
-
-pub shape_of-out : goal.shape_of-out
-shape_of-out c = c.put.auto.out ∙ simp length-set
+-- a verdict's number is its cell
+tagged : (v : Verdict) → tag_of the_type v ≡ verdict_cell v
+tagged True = refl
+tagged False = refl
+tagged Undef = refl
 
 pub returns : goal.returns
 returns c =
     let a = c.args in
-    let n = length a.body.now in
-    (◌∙◌ {c = paste a.out.now a.at (cells a.answer a.conflicts a.body.now) (3 + n)} c.put.ensures (paste_solve a.out.now a.at a.answer a.conflicts a.body.now (omega arith)), refl)
+    let n = length a.body.now in (
+      c.put.ensures
+          ∙ subst (λ (x : ℕ). paste (set (set (set a.out.now a.at (tag_of the_type a.verdict)) (a.at + 1) a.conflicts) (a.at + 2) n) (a.at + 3) a.body.now n ≡ paste a.out.now a.at (cells x a.conflicts a.body.now) (3 + n)) (tagged a.verdict) (paste_solve a.out.now a.at (tag_of the_type a.verdict) a.conflicts a.body.now (omega arith)),
+      refl,
+    )

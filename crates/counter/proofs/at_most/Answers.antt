@@ -1,17 +1,22 @@
-use Rattle.counter.proofs.Answers.{accepted_writable, writes_refused, writes_written}
+use Rattle.std.proofs.Common.{ℕ, List, rules, subst, Ok}
+use Rattle.counter.specs.Answers.{Writes}
+use Rattle.counter.proofs.Answers.{accepted_writable, writes_raised, writes_written}
 use Rattle.counter.proofs.at_most.Goals as goal
 
-pub write-n-requires : goal.write-n-requires
-write-n-requires c =
+pub returns-in_err-judge : goal.returns-in_err-judge
+returns-in_err-judge c =
     let a = c.args in
-    accepted_writable a.v a.literals.now a.k a.first a.out.now c.judge.result c.in-Accepted.is c.judge.ensures
+    writes_raised a.v a.literals.now a.k a.first a.out.now _ c.from_residual.ensures.1 c.in_err-judge.ensures
 
-pub returns-in-Refused : goal.returns-in-Refused
-returns-in-Refused c =
+pub write-requires : goal.write-requires
+write-requires c =
     let a = c.args in
-    writes_refused a.v a.literals.now a.k a.first a.out.now c.judge.result _ _ c.in-Refused.is c.judge.ensures
+    let w = accepted_writable a.v a.literals.now a.k a.first a.out.now c.in_ok-judge.ensures in
+    record { helpers = w.helpers; fits = w.fits }
 
-pub returns-in-Accepted : goal.returns-in-Accepted
-returns-in-Accepted c =
+pub returns : goal.returns
+returns c =
     let a = c.args in
-    writes_written a.v a.literals.now a.k a.first a.out.now c.judge.result c.in-Accepted.is c.judge.ensures _ _ c.write-n.ensures
+    let w = c.write.new.w in
+    subst (λ (out : List ℕ). Writes a.v a.literals.now a.k a.first a.out.now (Ok w.at) out) (search rules)
+    (writes_written a.v a.literals.now a.k a.first a.out.now c.in_ok-judge.ensures _ w.out.now c.write.ensures.wrote)

@@ -8,24 +8,24 @@ use Rattle.counter.proofs.write.Goals as goal
 pub negations-requires : goal.negations-requires
 negations-requires c =
     let a = c.args in
-    fits_as 0 (length a.out.now) c.requires.fits (at_most_none a.k a.first a.literals.now c.if-k-eq0.true)
+    fits_as a.w.now.at (length a.w.now.out.now) c.requires.fits (at_most_none a.k a.first a.literals.now c.if-k-eq0.true)
 
-pub returns-then-k-eq0 : goal.returns-then-k-eq0
-returns-then-k-eq0 c =
+pub counter-requires-clause-fits : goal.counter-requires-clause-fits
+counter-requires-clause-fits c =
     let a = c.args in
-    rw (at_most_none a.k a.first a.literals.now c.if-k-eq0.true) c.negations.ensures
+    fits_as a.w.now.at (length a.w.now.out.now) c.requires.fits (at_most_some a.k a.first a.literals.now (omega arith) (omega arith))
 
-pub returns-then-literals-wide : goal.returns-then-literals-wide
-returns-then-literals-wide c =
+pub returns-then-k-eq0-clause-wrote : goal.returns-then-k-eq0-clause-wrote
+returns-then-k-eq0-clause-wrote c =
     let a = c.args in
-    rw (at_most-all a.k a.first a.literals.now (omega arith) (omega arith)) (wrote_none a.out.now 0)
+    rw (at_most_none a.k a.first a.literals.now c.if-k-eq0.true) c.negations.ensures.wrote
 
-pub counter-requires : goal.counter-requires
-counter-requires c =
+pub returns-then-k-literals-clause-wrote : goal.returns-then-k-literals-clause-wrote
+returns-then-k-literals-clause-wrote c =
     let a = c.args in
-    record { le_k = (omega arith, omega arith); k_bound = c.requires.helpers (omega arith) (omega arith); fits = fits_as 0 (length a.out.now) c.requires.fits (at_most_some a.k a.first a.literals.now (omega arith) (omega arith)) }
+    rw (at_most_some a.k a.first a.literals.now (omega arith) (omega arith)) c.counter.ensures.wrote
 
-pub returns : goal.returns
-returns c =
+pub returns-else-k-literals-clause-wrote : goal.returns-else-k-literals-clause-wrote
+returns-else-k-literals-clause-wrote c =
     let a = c.args in
-    rw (at_most_some a.k a.first a.literals.now (omega arith) (omega arith)) c.counter.ensures
+    rw (at_most-all a.k a.first a.literals.now (omega arith) (omega arith)) (wrote_none a.w.now.out.now a.w.now.at)

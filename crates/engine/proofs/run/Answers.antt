@@ -1,26 +1,21 @@
 use Rattle.script.specs.Accepted.{judged_accepted}
-use Rattle.engine.specs.Answering.{some_cells, runs_none, runs_refused, runs_accepted}
+use Rattle.engine.specs.Answering.{no_cells, some_cells, runs_none, runs_raised, runs_accepted}
 use Rattle.engine.proofs.run.Goals as goal
 
-pub returns-then-script-eq0 : goal.returns-then-script-eq0
-returns-then-script-eq0 c =
-    let a = c.args in
-    runs_none a.script.now a.work.now a.activities.now a.out.now c.if-script-eq0.true
+pub returns-then-is_empty : goal.returns-then-is_empty
+returns-then-is_empty c = runs_none c.args.script.now c.args.work.now c.args.activities.now c.args.out.now (no_cells _ c.if-is_empty.ensures)
 
-pub run_accepted-n-requires : goal.run_accepted-n-requires
-run_accepted-n-requires c =
-    let a = c.args in
-    judged_accepted a.script.now _ _ _ c.judge-j.result c.in-Accepted.is c.judge-j.ensures
+pub returns-in_err-script : goal.returns-in_err-script
+returns-in_err-script c =
+    runs_raised c.args.script.now c.args.work.now c.args.activities.now c.args.out.now (some_cells _ c.if-is_empty.ensures) _ _ c.from_residual.ensures.1
+    c.in_err-script.ensures.judged
 
-pub returns-in-Refused : goal.returns-in-Refused
-returns-in-Refused c =
-    let a = c.args in
-    runs_refused a.script.now a.work.now a.activities.now a.out.now (some_cells _ c.if-script-eq0.false) c.judge-j.result _ _ c.in-Refused.is c.judge-j.ensures
+pub run_accepted-cells-requires : goal.run_accepted-cells-requires
+run_accepted-cells-requires c =
+    rw c.in_ok-script.ensures.script (judged_accepted c.args.script.now _ _ _ c.in_ok-script.ensures.judged)
 
-pub returns-in-Accepted : goal.returns-in-Accepted
-returns-in-Accepted c =
-    let a = c.args in
-    let r = c.run_accepted-n in
-    runs_accepted a.script.now a.work.now a.activities.now a.out.now
-    (judged_accepted a.script.now _ _ _ c.judge-j.result c.in-Accepted.is c.judge-j.ensures) r.result _ _ _ r.ensures.written
-    r.ensures.work_after r.ensures.activities_after
+pub returns : goal.returns
+returns c =
+    let r = rw c.in_ok-script.ensures.script at c.run_accepted-cells.ensures in
+    runs_accepted c.args.script.now c.args.work.now c.args.activities.now c.args.out.now
+    (judged_accepted c.args.script.now _ _ _ c.in_ok-script.ensures.judged) _ _ _ _ r.written r.work_after r.activities_after

@@ -1,27 +1,17 @@
-use native.Mathlib.Omega.{arith}
-use Rattle.script.specs.Kinds.{cost-solve, cost_other}
-use Rattle.search.specs.Held.{solver_at}
-use Rattle.records.specs.Recording.{stepped_solve, stepped_clause}
+use Rattle.model.specs.Run.{step}
+use Rattle.records.specs.Recording.{fits_clause, fits_solve}
 use Rattle.records.proofs.record.Goals as goal
 
-pub solve-requires : goal.solve-requires
-solve-requires c =
-    let a = c.args in
-    let p = c.requires in
-    record { between = p.between; limited = p.limited; assumable = p.fits.literals; solve_besides_in_bounds = omega (arith, p.fits.room, cost-solve a.kind c.if-kind-eq-SOLVE.true a.g.sizes.vars) }
+pub clause-requires-clause-at_in_bounds : goal.clause-requires-clause-at_in_bounds
+clause-requires-clause-at_in_bounds c = fits_clause (rw c.in-Clause.is at c.requires.fits)
 
-pub returns-then-kind-eq-SOLVE : goal.returns-then-kind-eq-SOLVE
-returns-then-kind-eq-SOLVE c =
-    let a = c.args in
-    stepped_solve a.g a.kind a.part.now a.budget a.o (solver_at a.g a.x a.work.now a.act.now) a.out.now _ _ _ _ c.if-kind-eq-SOLVE.true c.solve.ensures
+pub solve-requires-clause-solve_besides_in_bounds : goal.solve-requires-clause-solve_besides_in_bounds
+solve-requires-clause-solve_besides_in_bounds c = fits_solve (rw c.in-Solve.is at c.requires.fits)
 
-pub clause-requires : goal.clause-requires
-clause-requires c =
-    let a = c.args in
-    let p = c.requires in
-    record { between = p.between; limited = p.limited; assumable = p.fits.literals; at_in_bounds = omega (arith, p.fits.room, cost_other a.kind c.if-kind-eq-SOLVE.false a.g.sizes.vars) }
+pub returns-in-Clause : goal.returns-in-Clause
+unfolding step
+returns-in-Clause c = rw (c.in-Clause.is, step) c.clause.ensures
 
-pub returns : goal.returns
-returns c =
-    let a = c.args in
-    stepped_clause a.g a.kind a.part.now a.budget a.o (solver_at a.g a.x a.work.now a.act.now) a.out.now _ _ _ _ c.if-kind-eq-SOLVE.false c.clause.ensures
+pub returns-in-Solve : goal.returns-in-Solve
+unfolding step
+returns-in-Solve c = rw (c.in-Solve.is, step) c.solve.ensures

@@ -1,12 +1,14 @@
-use Prim.Native.Nat.{◌-◌}
-use mathlib.Core.Path.{◌≡◌}
-use lib.ListN.{length}
+use Rattle.std.proofs.Common.{◌≡◌, length}
+use Rattle.reader.specs.Rest.{rest_of}
 use Rattle.records.specs.Recording.{Recording}
 use Rattle.records.proofs.records.Given as goal
 
-abbrev pub invariant-loop-at : goal.invariant-loop-at
-invariant-loop-at l =
-    Recording l.g l.script l.initial.out l.x l.at l.o l.work l.act l.out × ((length l.work ≡ length l.initial.work) × (length l.act ≡ length l.initial.act))
-
-abbrev pub decreases-loop-at : goal.decreases-loop-at
-decreases-loop-at l = length l.script - l.at
+abbrev pub invariant-loop-r : goal.invariant-loop-r
+invariant-loop-r l =
+    record {
+      can_next : (goal.iterator-loop-r).can_next l.r-iterator;
+      is_finite : (goal.iterator-loop-r).is_finite l.r-iterator;
+      recording : Recording l.g l.script.cells.now l.initial.out l.x (rest_of l.r-iterator) l.o l.work l.act l.out;
+      work_length : length l.work ≡ length l.initial.work;
+      act_length : length l.act ≡ length l.initial.act;
+    }

@@ -1,35 +1,42 @@
-use Rattle.std.proofs.Common.{◌-◌, length, take, drop, sym, ◌∙◌, arith}
-use Rattle.replay.specs.Lines.{line_holds}
+use Rattle.std.proofs.Common.{◌≡◌, ◌<◌, rules, refl, ◌∷◌, length, sym, ap, ◌∙◌, arith}
+use Rattle.text.specs.Split.{lines}
+use Rattle.text.specs.SplitLaws.{lines_cut, text_left, text_shorter, text_of, no_lines, starts_with_as}
+use Rattle.replay.specs.Lines.{line_holds, group_key}
 use Rattle.replay.specs.LineLaws.{line_as, counting_start, counting_title, counting_line, counting_end}
 use Rattle.replay.proofs.group.Goals as goal
 
-pub loop-at-init : goal.loop-at-init
-loop-at-init g c =
+pub loop-line-init : goal.loop-line-init
+loop-line-init g c =
     let a = c.args in
-    let test = line_holds (length a.cells.now) (length a.work.now) (length a.activities.now) (length a.out.now) in
-    (omega arith, counting_start test a.input.now a.from)
+    counting_start (line_holds (length a.cells.now) (length a.work.now) (length a.activities.now) (length a.out.now)) a.input.now
 
-pub returns-then-starts : goal.returns-then-starts
-returns-then-starts g c =
-    let a = c.args in
-    let l = c.loop-at in
-    let test = line_holds (length a.cells.now) (length a.work.now) (length a.activities.now) (length a.out.now) in
-    (omega arith, counting_title test a.input.now a.from l.at l.t l.invariant.1 c.end_of-end.result (omega arith) c.end_of-end.ensures.2 (sym c.starts.ensures ∙ c.if-starts.true))
+pub returns-then-starts_with : goal.returns-then-starts_with
+returns-then-starts_with g c =
+    let l = c.loop-line in
+    let h : 0 < length l.left.now = search rules in
+    let w = lines_cut l.left.now c.cut.result.0.now c.cut.result.1 h c.cut.ensures.first c.cut.ensures.rest in
+    counting_title _ _ _ l.t l.invariant c.cut.result.0.now (text_of c.cut.result.1) w
+    (sym (starts_with_as group_key c.cut.result.0.now) ∙ sym c.starts_with.ensures.value ∙ c.if-starts_with.true)
 
-pub loop-at-preserved : goal.loop-at-preserved
-loop-at-preserved g c =
-    let a = c.args in
-    let l = c.loop-at in
-    let test = line_holds (length a.cells.now) (length a.work.now) (length a.activities.now) (length a.out.now) in
-    let line = take (c.end_of-end.result - l.at) (drop l.at a.input.now) in (
-      omega arith,
-      counting_line test a.input.now a.from l.at l.t l.invariant.1 c.end_of-end.result (omega arith) c.end_of-end.ensures.2 (sym c.starts.ensures ∙ c.if-starts.false) (omega arith)
-          c.script.result c.sum-t.result (line_as line c.script.result c.script.ensures l.auto.cells l.auto.work l.auto.activities l.auto.out) c.sum-t.ensures,
-    )
+pub loop-line-smaller : goal.loop-line-smaller
+loop-line-smaller g c =
+    let h : 0 < length c.loop-line.left.now = search rules in
+    let e = ap (λ b. b.now) c.unwrap_or-left.ensures ∙ text_left c.cut.result.1 _ refl in
+    omega (arith, ap length e, text_shorter c.loop-line.left.now c.cut.result.0.now c.cut.result.1 h c.cut.ensures.rest)
+
+pub loop-line-preserved : goal.loop-line-preserved
+loop-line-preserved g c =
+    let l = c.loop-line in
+    let h : 0 < length l.left.now = search rules in
+    let e = ap (λ b. b.now) c.unwrap_or-left.ensures ∙ text_left c.cut.result.1 _ refl in
+    let w = lines_cut l.left.now c.cut.result.0.now c.cut.result.1 h c.cut.ensures.first c.cut.ensures.rest in
+    counting_line _ _ _ l.t l.invariant c.cut.result.0.now c.unwrap_or-left.result.now (w ∙ ap (λ x. c.cut.result.0.now ∷ lines x) (sym e))
+    (sym (starts_with_as group_key c.cut.result.0.now) ∙ sym c.starts_with.ensures.value ∙ c.if-starts_with.false) (omega arith)
+    (omega (arith, ap length e, text_shorter l.left.now c.cut.result.0.now c.cut.result.1 h c.cut.ensures.rest))
+    c.script.result c.sum-t.result (line_as c.cut.result.0.now c.script.result c.script.ensures l.auto.cells l.auto.work l.auto.activities l.auto.out) c.sum-t.ensures
 
 pub returns : goal.returns
 returns g c =
-    let a = c.args in
-    let l = c.loop-at in
-    let test = line_holds (length a.cells.now) (length a.work.now) (length a.activities.now) (length a.out.now) in
-    (omega arith, counting_end test a.input.now a.from l.at l.t l.invariant.1 (omega arith))
+    let l = c.loop-line in
+    let h : length l.left.now ≡ 0 = search rules in
+    counting_end _ _ _ l.t l.invariant (no_lines l.left.now h)

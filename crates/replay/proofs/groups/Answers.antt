@@ -1,26 +1,31 @@
-use Rattle.std.proofs.Common.{length, arith}
+use Rattle.std.proofs.Common.{◌≡◌, ◌<◌, rules, refl, length, sym, ap, ◌∙◌, arith, ◌∷◌}
+use Rattle.text.specs.Split.{lines}
+use Rattle.text.specs.SplitLaws.{lines_cut, text_left, text_shorter, no_lines}
 use Rattle.replay.specs.Lines.{line_holds}
 use Rattle.replay.specs.LineLaws.{group_as, totalling_start, totalling_group, totalling_end}
 use Rattle.replay.proofs.groups.Goals as goal
 
-pub loop-at-init : goal.loop-at-init
-loop-at-init g c =
+pub loop-left-init : goal.loop-left-init
+loop-left-init g c =
     let a = c.args in
-    let test = line_holds (length a.cells.now) (length a.work.now) (length a.activities.now) (length a.out.now) in
-    totalling_start test a.input.now
+    totalling_start (line_holds (length a.cells.now) (length a.work.now) (length a.activities.now) (length a.out.now)) a.input.now
 
-pub loop-at-preserved : goal.loop-at-preserved
-loop-at-preserved g c =
-    let a = c.args in
-    let l = c.loop-at in
-    let u = c.group-g in
-    let test = line_holds (length a.cells.now) (length a.work.now) (length a.activities.now) (length a.out.now) in
-    totalling_group test a.input.now l.at l.all l.invariant c.end_of-end.result u.result.end u.result.tally c.sum-all.result c.loop-at-test.true c.end_of-end.ensures.2
-    (group_as u.ensures.1 l.auto.cells l.auto.work l.auto.activities l.auto.out) (omega arith) c.sum-all.ensures
+pub loop-left-smaller : goal.loop-left-smaller
+loop-left-smaller g c =
+    let h : 0 < length c.loop-left.left.now = search rules in
+    let e = ap (λ b. b.now) c.unwrap_or.ensures ∙ text_left c.cut.result.1 _ refl in
+    omega (arith, ap length e, c.group.ensures.shorter, text_shorter c.loop-left.left.now c.cut.result.0.now c.cut.result.1 h c.cut.ensures.rest)
+
+pub loop-left-preserved : goal.loop-left-preserved
+loop-left-preserved g c =
+    let l = c.loop-left in
+    let h : 0 < length l.left.now = search rules in
+    let e = ap (λ b. b.now) c.unwrap_or.ensures ∙ text_left c.cut.result.1 _ refl in
+    let w = lines_cut l.left.now c.cut.result.0.now c.cut.result.1 h c.cut.ensures.first c.cut.ensures.rest in
+    totalling_group _ _ _ l.all l.invariant c.cut.result.0.now c.unwrap_or.result.now c.group.result.1.now c.group.result.0 c.sum-all.result
+    (w ∙ ap (λ x. c.cut.result.0.now ∷ lines x) (sym e)) (group_as c.group.ensures l.auto.cells l.auto.work l.auto.activities l.auto.out) (omega arith) c.sum-all.ensures
 
 pub returns : goal.returns
 returns g c =
-    let a = c.args in
-    let l = c.loop-at in
-    let test = line_holds (length a.cells.now) (length a.work.now) (length a.activities.now) (length a.out.now) in
-    totalling_end test a.input.now l.at l.all l.invariant (omega arith)
+    let h : length c.loop-left.left.now ≡ 0 = search rules in
+    totalling_end _ _ _ c.loop-left.all c.loop-left.invariant (no_lines c.loop-left.left.now h)

@@ -1,10 +1,10 @@
-use Rattle.std.proofs.Common.{◌-◌, length}
+use Rattle.std.proofs.Common.{length}
 use Rattle.replay.specs.Lines.{line_holds}
 use Rattle.replay.specs.LineLaws.{Totalling}
 use Rattle.replay.proofs.groups.Given as goal
 
-abbrev pub invariant-loop-at : goal.invariant-loop-at
-invariant-loop-at g l = Totalling (line_holds (length l.initial.cells) (length l.initial.work) (length l.initial.activities) (length l.initial.out)) l.input l.at l.all
+abbrev pub invariant-loop-left : goal.invariant-loop-left
+invariant-loop-left g l = Totalling (line_holds (length l.initial.cells) (length l.initial.work) (length l.initial.activities) (length l.initial.out)) l.input l.left l.all
 
-abbrev pub decreases-loop-at : goal.decreases-loop-at
-decreases-loop-at g l = length l.input - l.at
+abbrev pub decreases-loop-left : goal.decreases-loop-left
+decreases-loop-left g l = length l.left

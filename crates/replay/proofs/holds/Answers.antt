@@ -1,4 +1,4 @@
-use Rattle.std.proofs.Common.{length, sym, ◌∙◌, arith, length-take-le}
+use Rattle.std.proofs.Common.{length, get_or, refl, sym, arith, length-take-le}
 use Rattle.replay.specs.VectorLaws.{holds_short, holds_work, holds_activities, holds_out, holds_cells, holds_gives}
 use Rattle.replay.proofs.holds.Goals as goal
 
@@ -39,12 +39,7 @@ slice_bounds-gives-end-8 c = sym (length-take-le _ _ (omega arith))
 pub returns : goal.returns
 returns c =
     let a = c.args in
-    let nw = c.wide-w in
-    let na = c.wide-a in
-    let no = c.wide-o in
-    let nc = c.wide-count in
-    holds_gives a.numbers.now (length a.work.now) (length a.activities.now) (length a.out.now) (omega arith) (omega arith) (omega arith) (omega arith) nc.result _ _ _ nc.ensures
-    (length-take-le nw.result a.work.now (omega arith) ∙ nw.ensures)
-    (length-take-le na.result a.activities.now (omega arith) ∙ na.ensures)
-    (length-take-le no.result a.out.now (omega arith) ∙ no.ensures)
+    let n = a.numbers.now in
+    holds_gives n (length a.work.now) (length a.activities.now) (length a.out.now) (omega arith) (omega arith) (omega arith) (omega arith) (get_or n 5 0) _ _ _ refl
+    (length-take-le (get_or n 0 0) a.work.now (omega arith)) (length-take-le (get_or n 1 0) a.activities.now (omega arith)) (length-take-le (get_or n 2 0) a.out.now (omega arith))
     (omega arith) c.gives.result c.gives.ensures

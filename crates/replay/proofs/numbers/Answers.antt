@@ -1,42 +1,51 @@
-use Rattle.std.proofs.Common.{◌≡◌, length, take, sym, refl, ◌∙◌, arith, length-set, length-take-le, rules}
+use Rattle.std.proofs.Common.{◌≡◌, length, take, sym, refl, ◌∙◌, arith, length-set, length-take-le}
+use Rattle.text.specs.FormatLaws.{shorter}
 use Rattle.replay.specs.LineLaws.{numbers_start, numbers_bad, numbers_full, numbers_more, numbers_end}
-use Rattle.std.proofs.Common.{rules}
 use Rattle.replay.proofs.numbers.Goals as goal
 
-pub loop-i-init : goal.loop-i-init
-loop-i-init c =
-    let a = c.args in
-    (omega arith, omega arith, refl, numbers_start a.line.now (length a.cells.now) c.end_of-i.result c.end_of-i.ensures.2)
+pub loop-left-init : goal.loop-left-init
+loop-left-init c = record {
+  within = omega arith;
+  long = refl;
+  numbers = numbers_start c.args.line.now _ (length c.args.cells.now) c.cut.result.1 c.cut.ensures.first c.cut.ensures.rest;
+}
 
-pub returns-in_default : goal.returns-in_default
-returns-in_default c =
-    let a = c.args in
-    let l = c.loop-i in
-    let e = c.end_of-end in
-    (omega arith, numbers_bad a.line.now l.i e.result (omega arith) e.ensures.2 (length a.cells.now) (take l.k l.cells) (sym c.decimal.ensures ∙ c.in_default.is) ∙ l.invariant.3)
+pub returns-in_default-decimal : goal.returns-in_default-decimal
+returns-in_default-decimal c =
+    let l = c.loop-left in
+    let e = c.cut-in-Some in (
+      omega arith,
+      numbers_bad e.result.1 c.in-Some.is e.ensures.first e.ensures.rest (length c.args.cells.now) (take l.k l.cells) (sym c.decimal.ensures ∙ c.in_default-decimal.is) ∙ l.invariant.numbers,
+    )
 
 pub returns-then-cells-k : goal.returns-then-cells-k
 returns-then-cells-k c =
-    let a = c.args in
-    let l = c.loop-i in
-    let e = c.end_of-end in
-    let n : length (take l.k l.cells) ≡ l.k = length-take-le l.k l.cells l.invariant.1 in
-    (omega arith, numbers_full a.line.now l.i e.result (omega arith) e.ensures.2 (length a.cells.now) (take l.k l.cells) _ (sym c.decimal.ensures ∙ c.in-Value.is) (omega (arith, n)) ∙ l.invariant.3)
-
-pub loop-i-preserved : goal.loop-i-preserved
-loop-i-preserved c =
-    let a = c.args in
-    let l = c.loop-i in
-    let e = c.end_of-end in
-    let n : length (take l.k l.cells) ≡ l.k = length-take-le l.k l.cells l.invariant.1 in (
-      search rules,
-      simp length-set (omega arith),
-      simp length-set (omega arith),
-      numbers_more a.line.now l.i e.result (omega arith) e.ensures.2 (length a.cells.now) (take l.k l.cells) _ (sym c.decimal.ensures ∙ c.in-Value.is) (omega (arith, n)) l.k l.cells (omega arith) refl ∙ l.invariant.3,
+    let l = c.loop-left in
+    let e = c.cut-in-Some in
+    let n : length (take l.k l.cells) ≡ l.k = length-take-le l.k l.cells l.invariant.within in (
+      omega arith,
+      numbers_full e.result.1 c.in-Some.is e.ensures.first e.ensures.rest (length c.args.cells.now) (take l.k l.cells) _ (sym c.decimal.ensures ∙ c.in-Some-decimal.is) (omega (arith, n, l.invariant.long))
+          ∙ l.invariant.numbers,
     )
+
+pub loop-left-smaller : goal.loop-left-smaller
+loop-left-smaller c = shorter 0 c.cut-in-Some.result.1 c.in-Some.is c.cut-in-Some.ensures.first c.cut-in-Some.ensures.rest
+
+pub loop-left-preserved : goal.loop-left-preserved
+loop-left-preserved c =
+    let l = c.loop-left in
+    let e = c.cut-in-Some in
+    let n : length (take l.k l.cells) ≡ l.k = length-take-le l.k l.cells l.invariant.within in
+    record {
+      within = simp length-set (omega arith);
+      long = simp length-set l.invariant.long;
+      numbers =
+          numbers_more e.result.1 c.in-Some.is e.ensures.first e.ensures.rest (length c.args.cells.now) (take l.k l.cells) _ (sym c.decimal.ensures ∙ c.in-Some-decimal.is) (omega (arith, n, l.invariant.long)) l.k
+          l.cells (omega arith) refl
+          ∙ l.invariant.numbers;
+    }
 
 pub returns : goal.returns
 returns c =
-    let a = c.args in
-    let l = c.loop-i in
-    (l.invariant.1, numbers_end a.line.now l.i (length a.cells.now) (take l.k l.cells) (omega arith) ∙ l.invariant.3)
+    let l = c.loop-left in
+    (l.invariant.within, numbers_end (length c.args.cells.now) (take l.k l.cells) c.in_default.is ∙ l.invariant.numbers)

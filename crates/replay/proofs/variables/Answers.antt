@@ -1,4 +1,3 @@
-use Rattle.std.proofs.Common.{◌∙◌}
 use Rattle.replay.specs.VectorLaws.{first_cell, no_variables}
 use Rattle.replay.proofs.variables.Goals as goal
 
@@ -6,4 +5,4 @@ pub returns-then-script-eq0 : goal.returns-then-script-eq0
 returns-then-script-eq0 c = no_variables c.args.script.now c.if-script-eq0.true
 
 pub returns : goal.returns
-returns c = c.wide.ensures ∙ first_cell c.args.script.now
+returns c = first_cell c.args.script.now

@@ -1,27 +1,19 @@
-use Prim.Native.Nat.{◌-◌}
-use mathlib.Core.Path.{refl, ◌∙◌}
-use native.Mathlib.Omega.{arith}
-use Rattle.script.specs.Judging.{same_judged}
-use Rattle.script.specs.Rows.{literal_stop, literal_more, literal_none}
+use Rattle.std.proofs.Common.{◌∙◌, arith}
+use Rattle.script.specs.Judging.{same_judged, raised, done, first_stops}
+use Rattle.script.specs.Rows.{passed_part, literals_start, literal_next, literals_end}
 use Rattle.script.proofs.judge_literals.Goals as goal
 
-pub loop-at-init : goal.loop-at-init
-loop-at-init c = (refl, λ k. refl)
+pub loop-i-init : goal.loop-i-init
+loop-i-init c = literals_start c.args.v c.args.first c.args.literals.now
 
-pub returns-then-bound-wide : goal.returns-then-bound-wide
-returns-then-bound-wide c =
-    let a = c.args in
-    let l = c.loop-at in
-    same_judged _ _ _ l.invariant.1 (literal_stop a.v a.script.now l.at a.to (omega arith) (omega arith) (omega arith))
+pub returns-in_err-check : goal.returns-in_err-check
+returns-in_err-check c =
+    same_judged _ _ _ c.loop-i.invariant
+    (rw (literal_next c.args.v c.args.first c.args.literals.now c.loop-i.i (omega arith)) (raised c.from_residual.ensures.1 (first_stops c.in_err-check.ensures)))
 
-pub loop-at-preserved : goal.loop-at-preserved
-loop-at-preserved c =
-    let a = c.args in
-    let l = c.loop-at in
-    (l.invariant.0, λ k. l.invariant.1 k ∙ literal_more a.v a.script.now l.at a.to (omega arith) (omega arith) (omega arith) k)
+pub loop-i-preserved : goal.loop-i-preserved
+loop-i-preserved c = λ k.
+    c.loop-i.invariant k ∙ rw (literal_next c.args.v c.args.first c.args.literals.now c.loop-i.i (omega arith)) (passed_part _ _ c.in_ok-check.ensures k)
 
 pub returns : goal.returns
-returns c =
-    let a = c.args in
-    let l = c.loop-at in
-    same_judged _ _ _ l.invariant.1 (literal_none a.v a.script.now l.at a.to (omega arith))
+returns c = same_judged _ _ _ c.loop-i.invariant (rw (literals_end c.args.v c.args.first c.args.literals.now c.loop-i.i (omega arith)) done)

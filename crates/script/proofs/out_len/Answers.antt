@@ -1,31 +1,26 @@
-use native.Mathlib.Omega.{arith}
-use mathlib.Core.Path.{sym, ◌∙◌}
-use lib.ListN.{length}
-use Rattle.model.specs.Script.{header, header_rows}
-use Rattle.script.specs.Judging.{accepted_hold}
-use Rattle.script.specs.Front.{header_in, variables_cell}
-use Rattle.script.specs.Needs.{len_header, len_records}
+use Rattle.std.proofs.Common.{List, ℕ, min, length, refl, ap, ◌∙◌}
+use Rattle.model.specs.Limits.{header_cells}
+use Rattle.model.specs.Script.{out_needed}
+use Rattle.script.specs.Walk.{records_from}
+use Rattle.script.specs.Front.{config_of, header_judged}
+use Rattle.script.specs.Needs.{max_cells, len_header, len_refused, len_accepted}
 use Rattle.script.proofs.out_len.Goals as goal
 
-pub bounds-script-0 : goal.bounds-script-0
-bounds-script-0 c =
-    let a = c.args in
-    let held = header_in a.script.now (accepted_hold (header_rows (length a.script.now) (header a.script.now)) c.in-Accepted.is c.judge_header.ensures) in
-    omega arith
+pub returns-in_default : goal.returns-in_default
+returns-in_default c = len_header c.args.script.now _ refl c.in_default.ensures.judged
 
-pub records_out_len-requires : goal.records_out_len-requires
-records_out_len-requires c =
-    let a = c.args in
-    let held = header_in a.script.now (accepted_hold (header_rows (length a.script.now) (header a.script.now)) c.in-Accepted.is c.judge_header.ensures) in
-    let same = c.wide.ensures ∙ sym (variables_cell a.script.now) in
-    record { v_value = same; v_le_max_variables = omega arith }
+pub returns-in-Ok-walk : goal.returns-in-Ok-walk
+returns-in-Ok-walk c =
+    let h = c.in-Ok.ensures in
+    let s = c.args.script.now in
+    let w = c.in-Ok-walk.ensures in
+    c.out_capped.ensures
+    ∙ ap (λ (v : ℕ). min (out_needed v (records_from c.in-Ok-walk.script.cells.now header_cells)) max_cells) (ap (λ h. h.variables) w.script.1)
+    ∙ ap (λ (x : List ℕ). min (out_needed c.in-Ok.header.variables (records_from x header_cells)) max_cells) (ap (λ b. b.now) w.script.0)
+    ∙ len_accepted s (config_of c.in-Ok.header) h.header (header_judged (length s) h.header h.judged) w.judged
 
-pub returns-in-Refused : goal.returns-in-Refused
-returns-in-Refused c =
-    let a = c.args in
-    len_header a.script.now c.in-Refused.is c.judge_header.ensures
-
-pub returns-in-Accepted : goal.returns-in-Accepted
-returns-in-Accepted c =
-    let a = c.args in
-    len_records a.script.now _ _ (c.wide.ensures ∙ sym (variables_cell a.script.now)) c.in-Accepted.is c.judge_header.ensures c.records_out_len.ensures
+pub returns-in-Err : goal.returns-in-Err
+returns-in-Err c =
+    let h = c.in-Ok.ensures in
+    let s = c.args.script.now in
+    len_refused s (config_of c.in-Ok.header) h.header (header_judged (length s) h.header h.judged) c.in-Err.ensures.judged

@@ -1,9 +1,12 @@
-use native.Mathlib.Omega.{arith}
-use Rattle.text.specs.WriteLaws.{joined}
+use Rattle.std.proofs.Common.{rules}
+use Rattle.text.specs.Prints.{prints_more}
 use Rattle.smallbooks.specs.Books.{printed}
 use Rattle.smallbooks.proofs.Tell.{printed-length}
 use Rattle.smallbooks.proofs.put_found.Goals as goal
 
-pub returns : goal.returns
+pub returns-clause-lines : goal.returns-clause-lines
 unfolding printed
-returns c = (joined c.put_verdict-k.ensures c.put_numbered.ensures, printed-length c.args.found (omega (arith, c.struct_known-1.given)))
+returns-clause-lines c = rw c.from.ensures at (prints_more c.verdict.ensures c.numbered.ensures)
+
+pub returns-clause-short : goal.returns-clause-short
+returns-clause-short c = printed-length c.args.found (search rules)

@@ -1,9 +1,12 @@
-use native.Mathlib.Omega.{arith}
-use Rattle.text.specs.WriteLaws.{joined}
+use Rattle.std.proofs.Common.{rules}
+use Rattle.text.specs.Prints.{prints_more}
 use Rattle.smallbooks.specs.Whole.{most_line}
 use Rattle.smallbooks.proofs.Whole.{most_length}
 use Rattle.smallbooks.proofs.put_most.Goals as goal
 
-pub returns : goal.returns
+pub returns-clause-line : goal.returns-clause-line
 unfolding most_line
-returns c = (joined (joined c.put_bytes-k.ensures c.put_number-m.ensures) c.put_numbered.ensures, most_length c.args.score (omega (arith, c.struct_known-1.given)) (omega (arith, c.struct_known-2-1.given)))
+returns-clause-line c = rw (c.from.ensures, c.from-2.ensures) at (prints_more (prints_more c.bytes.ensures c.number.ensures) c.numbered.ensures)
+
+pub returns-clause-short : goal.returns-clause-short
+returns-clause-short c = most_length c.args.score (search rules) (search rules)

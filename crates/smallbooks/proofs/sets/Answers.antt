@@ -1,28 +1,18 @@
-use Prim.Native.Nat.{◌-◌}
-use native.Mathlib.Omega.{arith}
-use Rattle.smallbooks.proofs.Tell.{telling_start, telling_choosing, telling_more, telling_end, telling_long}
+use Rattle.std.proofs.Common.{refl, arith, ◌∙◌}
+use Rattle.smallbooks.proofs.Tell.{telling_start, telling_choosing, telling_more, telling_end}
 use Rattle.smallbooks.proofs.sets.Goals as goal
 
 pub loop-k-init : goal.loop-k-init
-loop-k-init c = telling_start c.requires
+loop-k-init c = record { telling = telling_start c.requires; same_reference = refl }
 
-pub each_set-t-requires : goal.each_set-t-requires
-each_set-t-requires c = telling_choosing c.loop-k.invariant (omega (arith, c.loop-k-test))
-
-pub overflow_add-k : goal.overflow_add-k
-overflow_add-k c = omega (arith, c.loop-k-test)
-
-pub loop-k-smaller : goal.loop-k-smaller
-loop-k-smaller c = omega (arith, c.loop-k-test)
+pub each_set-total-requires : goal.each_set-total-requires
+each_set-total-requires c = telling_choosing c.loop-k.invariant.telling (omega (arith, c.loop-k-test))
 
 pub loop-k-preserved : goal.loop-k-preserved
-loop-k-preserved c = telling_more c.loop-k.invariant (omega (arith, c.loop-k-test)) c.each_set-t.ensures c.each_set-t.auto.script
+loop-k-preserved c = record {
+  telling = telling_more c.loop-k.invariant.telling (omega (arith, c.loop-k-test)) c.each_set-total.ensures.chose c.each_set-total.auto.script;
+  same_reference = c.each_set-total.ensures.same_reference ∙ c.loop-k.invariant.same_reference;
+}
 
-pub shape_of-script : goal.shape_of-script
-shape_of-script c = c.loop-k.invariant.long
-
-pub shape_of-text : goal.shape_of-text
-shape_of-text c = telling_long c.loop-k.invariant
-
-pub returns : goal.returns
-returns c = telling_end c.loop-k.invariant (omega (arith, c.loop-k-test))
+pub returns-clause-all : goal.returns-clause-all
+returns-clause-all c = telling_end c.loop-k.invariant.telling (omega (arith, c.loop-k-test))

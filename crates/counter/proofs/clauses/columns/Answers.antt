@@ -1,37 +1,27 @@
-use mathlib.Core.Path.{ap}
-use Prim.Native.Nat.{◌+◌, ◌-◌}
+use Prim.Native.Nat.{◌+◌}
+use mathlib.Core.Path.{◌∙◌}
 use native.Mathlib.Omega.{arith}
 use lib.ListN.{length}
-use Rattle.counter.specs.Counter.{columns, pair}
-use Rattle.counter.proofs.Wrote.{left_all, left_step, left_none, fits_first}
-use Rattle.counter.proofs.Writing.{left_as, none_less, columns_next, columns_end}
+use Rattle.counter.proofs.Wrote.{left_step, left_none, fits_first}
+use Rattle.counter.proofs.Writing.{left_as, columns_next, columns_end}
 use Rattle.counter.proofs.clauses.columns.Goals as goal
 
-pub loop-j-init : goal.loop-j-init
-loop-j-init c =
-    let a = c.args in (
-      left_as (left_all a.out.now a.at (columns a.x a.base (a.base + a.k) 0 (a.k - 1)) c.requires.fits) (ap (columns a.x a.base (a.base + a.k) 0) (none_less a.k)),
-      omega arith,
-    )
-
-pub column-to-requires : goal.column-to-requires
-column-to-requires c =
+pub column-requires-clause-fits : goal.column-requires-clause-fits
+column-requires-clause-fits c =
     let l = c.loop-j in
     let a = c.args in
-    let next = left_as l.invariant.0 (columns_next a.x a.base (a.base + a.k) a.k l.j (omega arith)) in
-    record { j_bound = omega arith; fits = fits_first l.to (length l.out) (pair a.x a.base (a.base + a.k) l.j) (columns a.x a.base (a.base + a.k) (l.j + 1) (a.k - 1 - (l.j + 1))) next.fits }
+    let next = left_as l.invariant.left (columns_next a.x a.base (a.base + a.k) a.k l.j l.auto.j c.loop-j-test.true) in
+    fits_first l.w.at (length l.w.out.now) _ _ next.fits
 
 pub loop-j-preserved : goal.loop-j-preserved
 loop-j-preserved c =
     let l = c.loop-j in
     let a = c.args in
-    (left_step (left_as l.invariant.0 (columns_next a.x a.base (a.base + a.k) a.k l.j (omega arith))) c.column-to.ensures, omega arith)
+    let next = left_as l.invariant.left (columns_next a.x a.base (a.base + a.k) a.k l.j l.auto.j c.loop-j-test.true) in
+    record { same = c.column.ensures.same_reference ∙ l.invariant.same; left = left_step next c.column.ensures.wrote }
 
-pub shape_of-out : goal.shape_of-out
-shape_of-out c = c.loop-j.invariant.0.same_length
-
-pub returns : goal.returns
-returns c =
+pub returns-clause-wrote : goal.returns-clause-wrote
+returns-clause-wrote c =
     let l = c.loop-j in
     let a = c.args in
-    left_none (left_as l.invariant.0 (columns_end a.x a.base (a.base + a.k) a.k l.j (omega arith)))
+    left_none (left_as l.invariant.left (columns_end a.x a.base (a.base + a.k) a.k l.j (omega arith)))

@@ -1,11 +1,11 @@
-use Prim.Native.Nat.{◌-◌}
-use lib.ListN.{length, drop}
+use mathlib.Core.Path.{◌≡◌}
+use lib.ListN.{drop}
 use Rattle.counter.specs.Counter.{negations}
 use Rattle.counter.specs.Wrote.{Left}
 use Rattle.counter.proofs.clauses.negations.Given as goal
 
-abbrev pub invariant-loop-i : goal.invariant-loop-i
-invariant-loop-i l = Left l.initial.out 0 (negations l.literals) l.out l.at (negations (drop l.i l.literals))
-
-abbrev pub decreases-loop-i : goal.decreases-loop-i
-decreases-loop-i l = length l.literals - l.i
+abbrev pub invariant-loop-l : goal.invariant-loop-l
+invariant-loop-l l = record {
+  same : l.w.out.ghost_name ≡ l.initial.w.out.ghost_name;
+  left : Left l.initial.w.out.now l.initial.w.at (negations l.literals) l.w.out.now l.w.at (negations (drop l.l-index l.literals));
+}

@@ -1,56 +1,38 @@
-use mathlib.Core.List.{[], ◌∷◌}
 use Prim.Native.Nat.{◌+◌, ◌-◌}
-use native.Mathlib.Omega.{arith}
 use lib.ListN.{length}
-use Rattle.model.specs.Lit.{neg}
-use Rattle.counter.specs.Counter.{helper, columns, stop}
+use Rattle.counter.specs.Counter.{columns}
 use Rattle.counter.proofs.Wrote.{left_step, fits_first}
-use Rattle.counter.specs.Writing.{row_tail}
-use Rattle.counter.proofs.Writing.{room_one, row_start, row_first, row_second}
+use Rattle.counter.proofs.Writing.{left_one, room_one, row_start}
 use Rattle.counter.proofs.clauses.next_row.Goals as goal
 
-pub imply-a-requires : goal.imply-a-requires
-imply-a-requires c =
+pub put-requires-clause-c_in_bounds : goal.put-requires-clause-c_in_bounds
+put-requires-clause-c_in_bounds c =
     let a = c.args in
-    let fits = c.requires.fits in
-    omega (
-      arith,
-      room_one a.at (length a.out.now) (neg a.x ∷ helper (a.base + a.k) 0 ∷ []) ((neg (helper a.base 0) ∷ helper (a.base + a.k) 0 ∷ []) ∷ row_tail a.k a.x a.base)
-          (row_start a.k a.x a.base a.out.now a.at fits).fits,
-    )
+    room_one a.w.now.at (length a.w.now.out.now) _ _ (row_start a.k a.x a.base a.w.now.out.now a.w.now.at c.requires.fits).fits
 
-pub imply-b-requires : goal.imply-b-requires
-imply-b-requires c =
+pub put-requires-2-clause-c_in_bounds : goal.put-requires-2-clause-c_in_bounds
+put-requires-2-clause-c_in_bounds c =
     let a = c.args in
-    let fits = c.requires.fits in
-    let one = row_first a.k a.x a.base a.out.now a.at fits c.helper-h.ensures c.imply-a.ensures in
-    omega (
-      arith,
-      room_one c.imply-a.result (length c.imply-a.new.out) (neg (helper a.base 0) ∷ helper (a.base + a.k) 0 ∷ []) (row_tail a.k a.x a.base) one.fits,
-    )
+    let one = left_one (row_start a.k a.x a.base a.w.now.out.now a.w.now.at c.requires.fits) (rw (c.negate.ensures, c.helper-h.ensures) at c.put.ensures.wrote) in
+    room_one c.put.new.self.at (length c.put.new.self.out.now) _ _ one.fits
 
-pub columns-c-requires : goal.columns-c-requires
-columns-c-requires c =
+pub columns-requires-clause-fits : goal.columns-requires-clause-fits
+columns-requires-clause-fits c =
     let a = c.args in
-    let fits = c.requires.fits in
-    let one = row_first a.k a.x a.base a.out.now a.at fits c.helper-h.ensures c.imply-a.ensures in
-    let two = row_second a.k a.x a.base a.out.now a.at fits one c.helper.ensures c.helper-h.ensures c.imply-b.ensures in
-    record { k_bound = omega arith; fits = fits_first c.imply-b.result (length c.imply-b.new.out) (columns a.x a.base (a.base + a.k) 0 (a.k - 1)) (stop a.k a.x a.base ∷ []) two.fits }
+    let one = left_one (row_start a.k a.x a.base a.w.now.out.now a.w.now.at c.requires.fits) (rw (c.negate.ensures, c.helper-h.ensures) at c.put.ensures.wrote) in
+    let two = left_one one (rw (c.negate-2.ensures, c.helper.ensures, c.helper-h.ensures) at c.put-2.ensures.wrote) in
+    fits_first _ _ (columns a.x a.base (a.base + a.k) 0 (a.k - 1)) _ two.fits
 
-pub stop-requires : goal.stop-requires
-stop-requires c =
+pub stop-requires-clause-fits : goal.stop-requires-clause-fits
+stop-requires-clause-fits c =
     let a = c.args in
-    let fits = c.requires.fits in
-    let one = row_first a.k a.x a.base a.out.now a.at fits c.helper-h.ensures c.imply-a.ensures in
-    let two = row_second a.k a.x a.base a.out.now a.at fits one c.helper.ensures c.helper-h.ensures c.imply-b.ensures in
-    let three = left_step {one = columns a.x a.base (a.base + a.k) 0 (a.k - 1)} two c.columns-c.ensures in
-    record { le_k = (omega arith, omega arith); fits = three.fits }
+    let one = left_one (row_start a.k a.x a.base a.w.now.out.now a.w.now.at c.requires.fits) (rw (c.negate.ensures, c.helper-h.ensures) at c.put.ensures.wrote) in
+    let two = left_one one (rw (c.negate-2.ensures, c.helper.ensures, c.helper-h.ensures) at c.put-2.ensures.wrote) in
+    (left_step {one = columns a.x a.base (a.base + a.k) 0 (a.k - 1)} two c.columns.ensures.wrote).fits
 
-pub returns : goal.returns
-returns c =
+pub returns-clause-wrote : goal.returns-clause-wrote
+returns-clause-wrote c =
     let a = c.args in
-    let fits = c.requires.fits in
-    let one = row_first a.k a.x a.base a.out.now a.at fits c.helper-h.ensures c.imply-a.ensures in
-    let two = row_second a.k a.x a.base a.out.now a.at fits one c.helper.ensures c.helper-h.ensures c.imply-b.ensures in
-    let three = left_step {one = columns a.x a.base (a.base + a.k) 0 (a.k - 1)} two c.columns-c.ensures in
-    three.rest _ _ c.stop.ensures
+    let one = left_one (row_start a.k a.x a.base a.w.now.out.now a.w.now.at c.requires.fits) (rw (c.negate.ensures, c.helper-h.ensures) at c.put.ensures.wrote) in
+    let two = left_one one (rw (c.negate-2.ensures, c.helper.ensures, c.helper-h.ensures) at c.put-2.ensures.wrote) in
+    (left_step {one = columns a.x a.base (a.base + a.k) 0 (a.k - 1)} two c.columns.ensures.wrote).rest _ _ c.stop.ensures.wrote

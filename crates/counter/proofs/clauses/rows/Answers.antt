@@ -1,59 +1,47 @@
-use mathlib.Core.Path.{◌∙◌}
-use Prim.Native.Nat.{◌+◌, ◌-◌}
+use Prim.Native.Nat.{◌-◌}
+use mathlib.Core.Path.{◌≡◌, ◌∙◌}
 use native.Mathlib.Omega.{arith}
-use lib.ListN.{length, drop, get_or}
-use Rattle.counter.specs.Counter.{next_row, rows}
-use Rattle.counter.proofs.Wrote.{left_all, left_step, fits_first, wrote_length}
+use lib.ListN.{length, take}
+use Rattle.std.proofs.Common.{length-take-le}
+use Rattle.std.proofs.lemmas.List.{get_or-take}
+use Rattle.counter.proofs.Wrote.{left_step, fits_first}
 use Rattle.counter.proofs.Writing.{left_as, rows_next, rows_last, one_row, row_less}
 use Rattle.counter.proofs.clauses.rows.Goals as goal
 
-pub loop-i-init : goal.loop-i-init
-loop-i-init c =
-    let a = c.args in
-    (left_all a.out.now a.at (rows a.k a.first (drop 1 a.literals.now)) c.requires.fits, omega arith, omega arith, c.requires.k_bound)
-
-pub next_row-to-requires : goal.next_row-to-requires
-next_row-to-requires c =
-    let l = c.loop-i in
+pub next_row-requires-clause-fits : goal.next_row-requires-clause-fits
+next_row-requires-clause-fits c =
+    let l = c.loop-l in
     let a = c.args in
     let ls = a.literals.now in
-    let m = length ls - l.i in
-    let next = left_as l.invariant.0 (rows_next a.k l.base ls l.i (omega arith)) in
-    record { le_k = (omega arith, omega (arith, one_row m a.k (omega arith), one_row (m - 1) a.k (omega arith))); fits = fits_first l.to (length l.out) (next_row a.k (get_or ls l.i 0) l.base) (rows a.k (l.base + a.k) (drop (l.i + 1) ls)) next.fits }
+    let n : length (take (length ls - 1) ls) ≡ length ls - 1 = length-take-le (length ls - 1) ls (omega arith) in
+    let next = left_as l.invariant.left (rows_next a.k l.base ls l.l-index _ (omega arith) (get_or-take (length ls - 1) ls l.l-index 0 (omega arith))) in
+    fits_first l.w.at (length l.w.out.now) _ _ next.fits
 
-pub overflow_add-base : goal.overflow_add-base
-overflow_add-base c =
-    let l = c.loop-i in
-    let a = c.args in
-    let m = length a.literals.now - l.i in
-    omega (arith, one_row m a.k (omega arith))
-
-pub loop-i-preserved : goal.loop-i-preserved
-loop-i-preserved c =
-    let l = c.loop-i in
+pub loop-l-preserved : goal.loop-l-preserved
+loop-l-preserved c =
+    let l = c.loop-l in
     let a = c.args in
     let ls = a.literals.now in
-    let m = length ls - l.i in (
-      left_step (left_as l.invariant.0 (rows_next a.k l.base ls l.i (omega arith))) c.next_row-to.ensures,
-      omega arith,
-      omega arith,
-      omega (arith, one_row m a.k (omega arith), row_less (length ls) l.i a.k),
-    )
+    let n : length (take (length ls - 1) ls) ≡ length ls - 1 = length-take-le (length ls - 1) ls (omega arith) in
+    let next = left_as l.invariant.left (rows_next a.k l.base ls l.l-index _ (omega arith) (get_or-take (length ls - 1) ls l.l-index 0 (omega arith))) in
+    record {
+      same = c.next_row.ensures.same_reference ∙ l.invariant.same;
+      left = left_step next c.next_row.ensures.wrote;
+      helpers = omega (arith, one_row (length ls - l.l-index) a.k (omega arith), row_less (length ls) l.l-index a.k);
+    }
 
-pub stop-requires : goal.stop-requires
-stop-requires c =
-    let l = c.loop-i in
+pub stop-requires-clause-fits : goal.stop-requires-clause-fits
+stop-requires-clause-fits c =
+    let l = c.loop-l in
     let a = c.args in
     let ls = a.literals.now in
-    let last = left_as l.invariant.0 (rows_last a.k l.base ls l.i (omega arith)) in
-    record { le_k = (omega arith, omega (arith, one_row (length ls - l.i) a.k (omega arith))); fits = last.fits }
+    let n : length (take (length ls - 1) ls) ≡ length ls - 1 = length-take-le (length ls - 1) ls (omega arith) in
+    (left_as l.invariant.left (rows_last a.k l.base ls l.l-index (length ls - 1) (omega arith) (omega arith))).fits
 
-pub shape_of-out : goal.shape_of-out
-shape_of-out c = wrote_length c.stop.ensures ∙ c.loop-i.invariant.0.same_length
-
-pub returns : goal.returns
-returns c =
-    let l = c.loop-i in
+pub returns-clause-wrote : goal.returns-clause-wrote
+returns-clause-wrote c =
+    let l = c.loop-l in
     let a = c.args in
-    let last = left_as l.invariant.0 (rows_last a.k l.base a.literals.now l.i (omega arith)) in
-    last.rest _ _ c.stop.ensures
+    let ls = a.literals.now in
+    let n : length (take (length ls - 1) ls) ≡ length ls - 1 = length-take-le (length ls - 1) ls (omega arith) in
+    (left_as l.invariant.left (rows_last a.k l.base ls l.l-index (length ls - 1) (omega arith) (omega arith))).rest _ _ c.stop.ensures.wrote

@@ -1,12 +1,14 @@
-use Prim.Native.Nat.{◌+◌, ◌-◌, ◌*◌, ◌≤◌, ◌<◌}
+use Prim.Native.Nat.{◌+◌, ◌-◌, ◌*◌, ◌≤◌}
+use mathlib.Core.Path.{◌≡◌}
 use lib.ListN.{length, drop}
 use Rattle.model.specs.Limits.{max_variables}
 use Rattle.counter.specs.Counter.{rows}
 use Rattle.counter.specs.Wrote.{Left}
 use Rattle.counter.proofs.clauses.rows.Given as goal
 
-abbrev pub invariant-loop-i : goal.invariant-loop-i
-invariant-loop-i l = Left l.initial.out l.at (rows l.k l.first (drop 1 l.literals)) l.out l.to (rows l.k l.base (drop l.i l.literals)) × (1 ≤ l.i) × (l.i < length l.literals) × (l.base + (length l.literals - l.i) * l.k ≤ max_variables)
-
-abbrev pub decreases-loop-i : goal.decreases-loop-i
-decreases-loop-i l = length l.literals - l.i
+abbrev pub invariant-loop-l : goal.invariant-loop-l
+invariant-loop-l l = record {
+  same : l.w.out.ghost_name ≡ l.initial.w.out.ghost_name;
+  left : Left l.initial.w.out.now l.initial.w.at (rows l.k l.first l.literals) l.w.out.now l.w.at (rows l.k l.base (drop l.l-index l.literals));
+  helpers : l.base + (length l.literals - l.l-index) * l.k ≤ max_variables;
+}

@@ -1,5 +1,4 @@
 use Prim.Native.Nat.{◌-◌}
-use native.Mathlib.Omega.{arith}
 use lib.ListN.{length}
 use mathlib.Core.List.{[], ◌∷◌}
 use Rattle.model.specs.Lit.{neg}
@@ -7,12 +6,12 @@ use Rattle.counter.specs.Counter.{helper, stop}
 use Rattle.counter.proofs.Writing.{room_one}
 use Rattle.counter.proofs.clauses.stop.Goals as goal
 
-pub deny_both-requires : goal.deny_both-requires
+pub put-requires-clause-c_in_bounds : goal.put-requires-clause-c_in_bounds
 unfolding stop
-deny_both-requires c =
+put-requires-clause-c_in_bounds c =
     let a = c.args in
-    omega (arith, room_one a.at (length a.out.now) (neg a.x ∷ neg (helper a.base (a.k - 1)) ∷ []) [] c.requires.fits)
+    room_one a.w.now.at (length a.w.now.out.now) (neg a.x ∷ neg (helper a.base (a.k - 1)) ∷ []) [] c.requires.fits
 
-pub returns : goal.returns
+pub returns-clause-wrote : goal.returns-clause-wrote
 unfolding stop
-returns c = rw c.helper.ensures at c.deny_both.ensures
+returns-clause-wrote c = rw (c.negate.ensures, c.negate-2.ensures, c.helper.ensures) at c.put.ensures.wrote

@@ -1,10 +1,11 @@
-use Prim.Native.Nat.{◌-◌, ◌≤◌}
+use Prim.Native.Nat.{◌-◌}
+use mathlib.Core.Path.{◌≡◌}
 use Rattle.counter.specs.Counter.{zeros}
 use Rattle.counter.specs.Wrote.{Left}
 use Rattle.counter.proofs.clauses.zeros.Given as goal
 
 abbrev pub invariant-loop-j : goal.invariant-loop-j
-invariant-loop-j l = Left l.initial.out l.at (zeros l.base 0 (l.k - 1)) l.out l.to (zeros l.base l.j (l.k - 1 - l.j)) × (l.j ≤ l.k)
-
-abbrev pub decreases-loop-j : goal.decreases-loop-j
-decreases-loop-j l = l.k - l.j
+invariant-loop-j l = record {
+  same : l.w.out.ghost_name ≡ l.initial.w.out.ghost_name;
+  left : Left l.initial.w.out.now l.initial.w.at (zeros l.base 0 (l.k - 1)) l.w.out.now l.w.at (zeros l.base (l.j - 1) (l.k - l.j));
+}

@@ -1,21 +1,18 @@
 use mathlib.Core.Path.{refl, sym, ◌∙◌}
-use Prim.Native.Nat.{◌-◌}
-use native.Mathlib.Omega.{arith}
-use Rattle.counter.proofs.JudgeLaws.{distinct_here, distinct_fails, distinct_end}
+use Rattle.counter.proofs.JudgeLaws.{distinct_here, distinct_fails, distinct_none}
 use Rattle.counter.proofs.judge.distinct.Goals as goal
 
-pub loop-i-init : goal.loop-i-init
-loop-i-init c = refl
+pub returns-then-is_named : goal.returns-then-is_named
+returns-then-is_named c =
+    let l = c.loop-left in
+    sym (l.invariant ∙ distinct_fails l.left.now _ c.in-len1-up.len_at_least refl (sym c.is_named.ensures ∙ c.if-is_named.true))
 
-pub returns-then-named_behind : goal.returns-then-named_behind
-returns-then-named_behind c =
-    let l = c.loop-i in
-    sym (l.invariant ∙ distinct_fails c.args.literals.now l.i (omega arith) (sym c.named_behind.ensures ∙ c.if-named_behind.true))
-
-pub loop-i-preserved : goal.loop-i-preserved
-loop-i-preserved c =
-    let l = c.loop-i in
-    l.invariant ∙ distinct_here c.args.literals.now l.i (omega arith) (sym c.named_behind.ensures ∙ c.if-named_behind.false)
+pub loop-left-preserved : goal.loop-left-preserved
+loop-left-preserved c =
+    let l = c.loop-left in
+    l.invariant ∙ distinct_here l.left.now _ c.in-len1-up.len_at_least refl (sym c.is_named.ensures ∙ c.if-is_named.false)
 
 pub returns : goal.returns
-returns c = sym (c.loop-i.invariant ∙ distinct_end c.args.literals.now c.loop-i.i (omega arith))
+returns c =
+    let l = c.loop-left in
+    sym (l.invariant ∙ distinct_none l.left.now c.in_default.len_below)

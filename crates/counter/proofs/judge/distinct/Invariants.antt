@@ -1,11 +1,10 @@
 use mathlib.Core.Path.{◌≡◌}
-use Prim.Native.Nat.{◌-◌}
-use lib.ListN.{length, drop}
+use lib.ListN.{length}
 use Rattle.counter.specs.Counter.{distinct}
 use Rattle.counter.proofs.judge.distinct.Given as goal
 
-abbrev pub invariant-loop-i : goal.invariant-loop-i
-invariant-loop-i l = distinct l.literals ≡ distinct (drop l.i l.literals)
+abbrev pub invariant-loop-left : goal.invariant-loop-left
+invariant-loop-left l = distinct l.literals ≡ distinct l.left
 
-abbrev pub decreases-loop-i : goal.decreases-loop-i
-decreases-loop-i l = length l.literals - l.i
+abbrev pub decreases-loop-left : goal.decreases-loop-left
+decreases-loop-left l = length l.left

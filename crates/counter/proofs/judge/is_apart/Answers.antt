@@ -1,16 +1,15 @@
-use mathlib.Core.Path.{ap, ◌∙◌}
-use Prim.Native.Nat.{◌+◌, ◌-◌}
+use mathlib.Core.Path.{◌∙◌}
+use borrow.Author.Tests.{lt-ltb}
 use native.Mathlib.Omega.{arith}
-use lib.Dec.{leb}
 use Rattle.counter.proofs.JudgeLaws.{apart_before, apart_behind}
 use Rattle.counter.proofs.judge.is_apart.Goals as goal
 
 pub returns-then-x-first : goal.returns-then-x-first
 returns-then-x-first c =
     let a = c.args in
-    apart_before a.first a.used a.l (omega arith)
+    lt-ltb _ a.first c.if-x-first.true ∙ apart_before a.first a.used a.l (omega arith)
 
-pub returns : goal.returns
-returns c =
+pub returns-else-x-first : goal.returns-else-x-first
+returns-else-x-first c =
     let a = c.args in
-    ap (leb (a.first + a.used)) c.wide-x.ensures ∙ apart_behind a.first a.used a.l (omega arith)
+    apart_behind a.first a.used a.l (omega arith)

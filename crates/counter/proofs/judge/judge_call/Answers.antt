@@ -1,19 +1,15 @@
-use mathlib.Core.Path.{sym, ◌∙◌}
-use Rattle.script.specs.Judging.{done, pass, stop}
+use Rattle.script.specs.Judging.{raised, first_stops, first_passes}
 use Rattle.counter.proofs.judge.judge_call.Goals as goal
 
-pub returns-then-not-from_one : goal.returns-then-not-from_one
-returns-then-not-from_one c = stop (sym (rw c.wide.ensures at c.from_one.ensures) ∙ c.if-not-from_one.true)
+pub returns-in_err-check : goal.returns-in_err-check
+returns-in_err-check c = rw (← c.from_one.ensures) (raised c.from_residual.ensures.1 (first_stops c.in_err-check.ensures))
 
-pub returns-then-not-from_one-2 : goal.returns-then-not-from_one-2
-returns-then-not-from_one-2 c = pass (sym (rw c.wide.ensures at c.from_one.ensures) ∙ c.if-not-from_one.false) (stop (sym c.from_one-2.ensures ∙ c.if-not-from_one-2.true))
-
-pub returns-then-not-in_range : goal.returns-then-not-in_range
-returns-then-not-in_range c =
-    pass (sym (rw c.wide.ensures at c.from_one.ensures) ∙ c.if-not-from_one.false)
-    (pass (sym c.from_one-2.ensures ∙ c.if-not-from_one-2.false) (stop (sym c.in_range.ensures ∙ c.if-not-in_range.true)))
+pub returns-in_err-check-2 : goal.returns-in_err-check-2
+returns-in_err-check-2 c =
+    rw (← c.from_one.ensures, ← c.from_one-2.ensures)
+    (raised c.from_residual-in_err-check-2.ensures.1 (first_passes c.in_ok-check.ensures (first_stops c.in_err-check-2.ensures)))
 
 pub returns : goal.returns
 returns c =
-    pass (sym (rw c.wide.ensures at c.from_one.ensures) ∙ c.if-not-from_one.false)
-    (pass (sym c.from_one-2.ensures ∙ c.if-not-from_one-2.false) (pass (sym c.in_range.ensures ∙ c.if-not-in_range.false) done))
+    rw (← c.from_one.ensures, ← c.from_one-2.ensures, ← c.in_range.ensures)
+    (first_passes c.in_ok-check.ensures (first_passes c.in_ok-check-2.ensures c.check-3.ensures))

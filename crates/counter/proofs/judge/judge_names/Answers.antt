@@ -1,28 +1,23 @@
-use mathlib.Core.Path.{sym, ◌∙◌}
-use native.Mathlib.Omega.{arith}
 use lib.ListN.{length}
-use Rattle.script.specs.Judging.{done, pass, stop}
+use Rattle.script.specs.Judging.{raised, first_stops, first_passes}
 use Rattle.counter.proofs.JudgeLaws.{helpers_small}
 use Rattle.counter.proofs.judge.judge_names.Goals as goal
 
-pub returns-then-not-distinct : goal.returns-then-not-distinct
-returns-then-not-distinct c = stop (sym c.distinct.ensures ∙ c.if-not-distinct.true)
+pub returns-in_err-check : goal.returns-in_err-check
+returns-in_err-check c = rw (← c.distinct.ensures) (raised c.from_residual.ensures.1 (first_stops c.in_err-check.ensures))
 
 pub all_apart-requires : goal.all_apart-requires
-all_apart-requires c = (omega arith, omega (arith, helpers_small c.args.k (length c.args.literals.now) c.requires, c.helpers-used.ensures))
+all_apart-requires c = rw c.helpers-used.ensures (helpers_small c.args.k (length c.args.literals.now) c.requires)
 
-pub returns-then-not-all_apart : goal.returns-then-not-all_apart
-returns-then-not-all_apart c = pass (sym c.distinct.ensures ∙ c.if-not-distinct.false) (stop (sym (rw (c.wide.ensures, c.helpers-used.ensures) at c.all_apart.ensures) ∙ c.if-not-all_apart.true))
+pub returns-in_err-check-2 : goal.returns-in_err-check-2
+returns-in_err-check-2 c =
+    rw (← c.distinct.ensures, ← c.helpers-used.ensures, ← c.all_apart.ensures)
+    (raised c.from_residual-in_err-check-2.ensures.1 (first_passes c.in_ok-check.ensures (first_stops c.in_err-check-2.ensures)))
 
 pub helpers_fit-requires : goal.helpers_fit-requires
-helpers_fit-requires c = (omega arith, omega (arith, helpers_small c.args.k (length c.args.literals.now) c.requires, c.helpers-used.ensures))
-
-pub returns-then-not-helpers_fit : goal.returns-then-not-helpers_fit
-returns-then-not-helpers_fit c =
-    pass (sym c.distinct.ensures ∙ c.if-not-distinct.false)
-    (pass (sym (rw (c.wide.ensures, c.helpers-used.ensures) at c.all_apart.ensures) ∙ c.if-not-all_apart.false) (stop (sym (rw (c.wide-2.ensures, c.wide-3.ensures, c.helpers-used.ensures) at c.helpers_fit.ensures) ∙ c.if-not-helpers_fit.true)))
+helpers_fit-requires c = rw c.helpers-used.ensures (helpers_small c.args.k (length c.args.literals.now) c.requires)
 
 pub returns : goal.returns
 returns c =
-    pass (sym c.distinct.ensures ∙ c.if-not-distinct.false)
-    (pass (sym (rw (c.wide.ensures, c.helpers-used.ensures) at c.all_apart.ensures) ∙ c.if-not-all_apart.false) (pass (sym (rw (c.wide-2.ensures, c.wide-3.ensures, c.helpers-used.ensures) at c.helpers_fit.ensures) ∙ c.if-not-helpers_fit.false) done))
+    rw (← c.distinct.ensures, ← c.helpers-used.ensures, ← c.all_apart.ensures, ← c.helpers_fit.ensures)
+    (first_passes c.in_ok-check.ensures (first_passes c.in_ok-check-2.ensures c.check-3.ensures))

@@ -1,4 +1,0 @@
-use Rattle.counter.proofs.clauses.deny_both.Goals as goal
-
-pub returns : goal.returns
-returns c = rw (c.negate.ensures, c.negate-2.ensures) at c.put_clause.ensures

@@ -1,7 +1,0 @@
-use mathlib.Core.Path.{sym}
-use native.Mathlib.Omega.{arith}
-use lib.ListN.{get_or-eq_default}
-use Rattle.text.proofs.cell.Goals as goal
-
-pub returns : goal.returns
-returns c = let a = c.args in sym (get_or-eq_default a.s.now 0 {n = a.i} (omega arith))

@@ -1,5 +1,5 @@
 -- The pick from the first unset variable on, with the best one's activity kept beside it.
-use Rattle.std.specs.Prelude.{ℕ, zero, suc, ◌+◌, ◌≤◌, ◌<◌, ◌≡◌, refl, false, List, length, get_or, drop, eqb, position, ◌==◌, Float, Option as Found, Some, None}
+use Rattle.std.specs.Prelude.{ℕ, zero, suc, ◌+◌, ◌≤◌, ◌<◌, ◌≡◌, refl, false, List, length, get_or, drop, eqb, position, ◌==◌, Float}
 use Rattle.std.proofs.Common.{arith, add-one, sym, subst, ◌∙◌, lt-ltb}
 use Rattle.std.specs.List.{position_or_len}
 use Rattle.std.proofs.lemmas.List.Sums.{fails_before_first}
@@ -26,9 +26,9 @@ pub record Leads (act : List Float) (values : List ℕ) (b : Best) : Type 0 wher
   pub top : b.top ≡ get_or act b.var.0 nan
 
 -- what is picked
-abbrev pub var_of : Found Var → Option ℕ
-var_of (Some v) = some v.0
-var_of None = none
+abbrev pub var_of : Option Var → Option ℕ
+var_of (some v) = some v.0
+var_of none = none
 
 module _ (act : List Float) (values : List ℕ) where
   -- the set variables are passed by
@@ -38,7 +38,7 @@ module _ (act : List Float) (values : List ℕ) where
       let stays : none ≡ better act none k (get_or values k 0) = rw (s k (omega arith), better) in
       subst (λ (i : ℕ). pick act none i (drop i values) ≡ pick act none 0 values) (add-one k) (pick_more act values none none k (omega arith) stays ∙ passed k (omega arith) (λ v g. s v (omega arith)))
 
-  pub none_unset : position (λ x. x == l_undef) values ≡ None → none ≡ pick act none 0 values
+  pub none_unset : position (λ x. x == l_undef) values ≡ none → none ≡ pick act none 0 values
   none_unset e = go (position_or_len (λ x. x == l_undef) values) refl (dec_lt (position_or_len (λ x. x == l_undef) values) (length values))
     where
       go : (k : ℕ) → position_or_len (λ x. x == l_undef) values ≡ k → Dec (k < length values) → none ≡ pick act none 0 values
@@ -47,7 +47,7 @@ module _ (act : List Float) (values : List ℕ) where
           sym (pick_last act values none (length values) (omega arith))
           ∙ passed (length values) (omega arith) (λ v g. fails_before_first (λ x. x == l_undef) values v 0 (omega (arith, q)))
 
-  pub from_first : (r : ℕ) → position (λ x. x == l_undef) values ≡ Some r → (r < length values) × (pick act (some r) (r + 1) (drop (r + 1) values) ≡ pick act none 0 values)
+  pub from_first : (r : ℕ) → position (λ x. x == l_undef) values ≡ some r → (r < length values) × (pick act (some r) (r + 1) (drop (r + 1) values) ≡ pick act none 0 values)
   from_first r e =
       let f = position-Some (λ x. x == l_undef) values r 0 e in
       let takes : some r ≡ better act none r (get_or values r 0) = rw (f.1, better) in

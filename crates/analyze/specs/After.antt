@@ -1,68 +1,85 @@
--- What holds when `first_uip` is done: the clause in the buffer, its marks, and the state as it was.
-use Rattle.std.specs.Prelude.{ℕ, ◌+◌, ◌*◌, ◌≤◌, ◌<◌, ◌≡◌, refl, List, [], ◌∷◌, length, get_or, take, drop, Float}
-use Rattle.std.proofs.Common.{arith, sym, ap, ◌∙◌, subst, take_at}
-use Rattle.std.proofs.lemmas.List.Edits.{sets, sets-eq}
-use Rattle.std.proofs.Math.Seq.{slice}
-use Rattle.model.specs.State.{State, clause_at}
-use Rattle.model.specs.Analyze.{Resolvent}
-use Rattle.lawbase.specs.Basics.{◌∈◌, Every, neg-neg, neg_range}
+-- What holds when `first_uip` is done: the clause in the buffer and its marks are those of the definition's first UIP.
+use Rattle.std.specs.Prelude.{ℕ, ◌*◌, ◌≤◌, ◌<◌, ◌≡◌, refl, List, [], ◌∷◌, reverse, length, drop}
+use Rattle.std.proofs.Common.{arith, ap, ◌∙◌, subst}
+use Rattle.model.specs.Script.{Config}
+use Rattle.model.specs.State.{Store, VarState, State, Activity, clause_at, reason_rest}
+use Rattle.model.specs.Minimise.{is_seen}
+use Rattle.model.specs.Analyze.{Resolvent, join, resolve, first_uip}
+use Rattle.lawbase.specs.Basics.{split, on?, less?, neg-neg, neg_range}
 use Rattle.learning.proofs.Trail.{in_range, in_reverse}
 use Rattle.learning.specs.Marks.{MarksOf}
-use Rattle.learning.proofs.Room.{distinct-length}
-use Rattle.learning.specs.FirstUip.{Conflict, FirstUip}
+use Rattle.learning.specs.FirstUip.{Conflict}
 use Rattle.learning.specs.Walk.{Stop}
+use Rattle.learning.specs.Turn.{less}
+use Rattle.learning.proofs.Turn.{resolve_skip, resolve_stop, resolve_on}
+use Rattle.learning.proofs.Room.{distinct-length}
 use Rattle.learning.proofs.Uip.{first_uip_law}
-use Rattle.activity.specs.Activities.{activity}
-use Rattle.trail.specs.View.{LitsOf}
-use Rattle.state.specs.View.{Whole, whole, state_of, Rep}
-use Rattle.state.specs.Still.{Still, state_at, config_of}
-use Rattle.state.specs.declared.Header.{Header}
-use Rattle.state.specs.declared.Config.{Config}
-use Rattle.analyze.specs.declared.Joined.{Joined}
-use Rattle.analyze.specs.Resolving.{Resolving, buffer_length}
-use Rattle.analyze.specs.Uip.{uip_of, solver}
+use Rattle.trail.specs.View.{Assignment, LitsOf}
+use Rattle.store.specs.View.{Clauses}
+use Rattle.scratch.specs.declared.Scratch.{Scratch}
+use Rattle.analyze.specs.Resolving.{Laid}
+use Rattle.analyze.specs.Joining.{join_sized}
+use Rattle.analyze.specs.Walking.{stored}
+use Rattle.analyze.specs.Uip.{Uip, solver}
 use Rattle.analyze.specs.Unmarking.{marks_lits}
 
-module _ (g : Config) (h : Header) (w : List ℕ) (acts : List Float) (inc : Float) (confl : ℕ) (p : Rep g.sizes h w)
-    (c : Conflict g.sizes.vars (state_at g h w).store (state_at g h w).vars confl) (w' : List ℕ) (acts' : List Float) (r : Joined)
-    (u : Resolving g.sizes h (whole g.sizes h w) 0 w' acts' r (uip_of g h w acts inc confl)) where
-  abbrev k : Resolvent
-  k = uip_of g h w acts inc confl
+-- each variable keeps an activity
+resolve_sized : (st : Store) (vs : VarState) (ps : List ℕ) (k : Resolvent) → length (resolve st vs ps k).activity.activities ≡ length k.activity.activities
+unfolding resolve
+resolve_sized st vs [] k = refl
+resolve_sized st vs (p ∷ ps) k = split (on? (is_seen k.seen p))
+    (λ s. split (less? 1 k.path)
+    (λ m.
+    ap size_of (resolve_on st vs p ps k s m)
+    ∙ resolve_sized st vs ps (join vs (reason_rest st vs p) (less p k))
+    ∙ join_sized vs (reason_rest st vs p) (less p k))
+    (λ m. ap size_of (resolve_stop st vs p ps k s m)))
+    (λ s. ap size_of (resolve_skip st vs p ps k s) ∙ resolve_sized st vs ps k)
+  where
+    size_of : Resolvent → ℕ
+    size_of r = length r.activity.activities
 
-  -- the clause and its marks, as the laws have them
-  pub stop : Stop g.sizes.vars (state_at g h w).store (state_at g h w).vars confl (uip_of g h w acts inc confl)
-  stop = first_uip_law (config_of g) (solver (state_at g h w) (activity acts inc)) confl c
+-- in a state of the definition's with the clauses c and the assignment t
+module _ (cfg : Config) (s : State) (t : Assignment) (c : Clauses) (confl : ℕ) (n : cfg.variables ≡ length t.vars.values)
+    (e : s.store.clauses ≡ c.clauses) (v : s.vars ≡ t.vars) (k : Conflict cfg.variables s.store s.vars confl) where
+  -- what `first_uip` asks of the conflict
+  pub conflict_at : Conflict (length t.vars.values) (stored c) t.vars confl
+  conflict_at =
+      rw (← n, ← v)
+      (subst (λ (cs : List (List ℕ)). Conflict cfg.variables (record { clauses = cs; watches = [] }) s.vars confl) e
+      (record { assignment = k.assignment; falsified = k.falsified; deep = k.deep; top = k.top }))
 
-  short : length k.learnt ≤ g.sizes.vars
-  short =
-      distinct-length g.sizes.vars k.learnt
-      (λ q i. subst (λ l. l < 2 * g.sizes.vars) (neg-neg q)
-      (neg_range _ g.sizes.vars (in_range g.sizes.vars (state_at g h w).store.clauses (state_at g h w).vars _ c.assignment.entries _
-      (in_reverse (state_at g h w).vars.trail (stop.first.falsified q i)))))
-      stop.first.distinct
+  module _ (x x' : Scratch) (a a' : Activity) (u : Uip t c x x' a a' confl) where
+    -- the clause and its marks, as the laws have them
+    pub stop : Stop cfg.variables s.store s.vars confl (first_uip cfg (solver s a) confl)
+    stop = first_uip_law cfg (solver s a) confl k
 
-  pub after_room : r.learnt ≤ g.sizes.vars
-  after_room = omega (arith, u.learnt, short)
+    pub after : Laid x x' a' (first_uip cfg (solver s a) confl)
+    after = u.is cfg s n e v
 
-  pub after_some : 1 ≤ r.learnt
-  after_some = omega (arith, u.learnt, ap length stop.first.learnt)
+    pub after_clause : x'.buffer.items ≡ (first_uip cfg (solver s a) confl).learnt
+    after_clause = ap (λ (y : Scratch). y.buffer.items) after.scratch
 
-  pub after_clause : take r.learnt (whole g.sizes h w').scratch.buffer ≡ (uip_of g h w acts inc confl).learnt
-  after_clause =
-      let b = (whole g.sizes h w).scratch.buffer in
-      let f : 0 + length k.learnt ≤ length b = omega (arith, short, buffer_length g.sizes h w p) in
-      let e : (whole g.sizes h w').scratch.buffer ≡ sets b 0 k.learnt = ap (λ y. y.scratch.buffer) u.held.whole in
-      rw (e, sets-eq k.learnt b 0 f) (take_at k.learnt (drop (0 + length k.learnt) b) r.learnt (omega (arith, u.learnt)))
+    pub after_some : 1 ≤ length x'.buffer.items
+    after_some = omega (arith, ap (length {A = ℕ}) (after_clause ∙ stop.first.learnt))
 
-  -- behind the first
-  pub after_rest : slice 1 r.learnt (whole g.sizes h w').scratch.buffer ≡ drop 1 (uip_of g h w acts inc confl).learnt
-  after_rest = ap (drop 1) after_clause
+    pub after_room : length x'.buffer.items ≤ cfg.variables
+    after_room =
+        rw after_clause
+        (distinct-length cfg.variables (first_uip cfg (solver s a) confl).learnt
+        (λ q i. subst (λ l. l < 2 * cfg.variables) (neg-neg q)
+        (neg_range _ cfg.variables (in_range cfg.variables s.store.clauses s.vars _ k.assignment.entries _ (in_reverse s.vars.trail (stop.first.falsified q i)))))
+        stop.first.distinct)
 
-  pub after_marks : MarksOf g.sizes.vars (whole g.sizes h w').scratch.marks (slice 1 r.learnt (whole g.sizes h w').scratch.buffer)
-  after_marks = rw (after_rest, ap (λ y. y.scratch.marks) u.held.whole) stop.marks
+    pub after_marks : MarksOf cfg.variables x'.marks (drop 1 x'.buffer.items)
+    after_marks = rw (after_clause, ap (λ (y : Scratch). y.marks) after.scratch) stop.marks
 
-  pub after_lits : LitsOf g.sizes.vars (slice 1 r.learnt (whole g.sizes h w').scratch.buffer)
-  after_lits = marks_lits g.sizes.vars _ _ after_marks
+    pub after_lits : LitsOf cfg.variables (drop 1 x'.buffer.items)
+    after_lits = marks_lits cfg.variables _ _ after_marks
 
-  pub after_state : state_at g h w' ≡ state_at g h w
-  after_state = ap (state_of h) u.held.whole
+    pub after_sized : length a'.activities ≡ length a.activities
+    unfolding first_uip
+    after_sized =
+        ap (λ (b : Activity). length b.activities) after.activity
+        ∙ resolve_sized s.store s.vars (reverse s.vars.trail) _
+        ∙ join_sized s.vars (clause_at s.store confl) _

@@ -1,99 +1,85 @@
 -- The literal of the highest level behind the first one, and its change of places with the second.
-use Rattle.std.specs.Prelude.{ℕ, zero, suc, ◌+◌, ◌*◌, ◌-◌, ◌≤◌, ◌<◌, ◌≡◌, true, false, length, get_or, set, take, drop, ltb}
-use Rattle.std.proofs.Common.{arith, ap, ◌∙◌, subst, length-set, get_or-take, get_or-drop, lt-ltb, le-ltb}
+use Rattle.std.specs.Prelude.{ℕ, zero, suc, ◌+◌, ◌-◌, ◌≤◌, ◌<◌, ◌≡◌, length, get_or, set, take, drop}
+use Rattle.std.proofs.Common.{arith, add-one, ap, ◌∙◌, subst, length-set, lt-ltb, le-ltb, drop-cons, drop_of_length-le}
 use Rattle.std.proofs.Math.Path.{refl, sym}
-use mathlib.Core.List.{List, [], ◌∷◌}
-use Rattle.std.proofs.Math.ListN.{drop_of_length-le}
-use Rattle.std.proofs.lemmas.List.Edits.{sets}
-use Rattle.std.proofs.Math.Seq.{length-take-le, slice, slice_empty, slice-cons, length-slice}
+use mathlib.Core.List.{List, [], ◌∷◌, ◌++◌}
 use Rattle.lawbase.specs.Basics.{split, less?}
 use Rattle.model.specs.Lit.{var}
 use Rattle.model.specs.State.{VarState, level_lit}
 use Rattle.model.specs.Analyze.{highest, highest_first, backtrack_level}
-use Rattle.scratch.specs.View.{with_buffer, buffered}
-use Rattle.trail.specs.View.{LitsOf}
-use Rattle.state.specs.View.{Whole, whole, Rep, Holds, with_scratch}
-use Rattle.state.specs.declared.Sizes.{Sizes}
-use Rattle.state.specs.declared.Header.{Header}
-use Rattle.analyze.specs.Places.{sets_same, sets-set}
-use Rattle.analyze.specs.Resolving.{buffer_length}
+use Rattle.trail.specs.View.{Assignment, LitsOf}
+use Rattle.scratch.specs.Row.{Row, put}
 
 -- the place, from 0, of the literal on the highest level, the first one on a tie
 unfoldable pub highest_place : VarState → List ℕ → ℕ
 highest_place vs [] = 0
 highest_place vs (l ∷ ls) = highest vs 0 (level_lit vs l) 1 ls
 
--- the better of two places of a buffer
-abbrev pub better : VarState → List ℕ → ℕ → ℕ → ℕ
-better vs b best i = elim (ltb (level_lit vs (get_or b best 0)) (level_lit vs (get_or b i 0))) [ true ↦ i | false ↦ best ]
+-- a literal behind the first is of a variable
+pub place-lit : (n : ℕ) (b : List ℕ) (i : ℕ) → LitsOf n (drop 1 b) → 1 ≤ i → i < length b → var (get_or b i 0) < n
+place-lit n [] i k f g = absurd (omega arith)
+place-lit n (x ∷ b) zero k f g = absurd (omega arith)
+place-lit n (x ∷ b) (suc i) k f g = k i (omega arith)
 
-pub better_new : (vs : VarState) (b : List ℕ) (best i : ℕ) → level_lit vs (get_or b best 0) < level_lit vs (get_or b i 0) → better vs b best i ≡ i
-better_new vs b best i h = rw (lt-ltb (level_lit vs (get_or b best 0)) (level_lit vs (get_or b i 0)) h, better)
-
-pub better_old : (vs : VarState) (b : List ℕ) (best i : ℕ) → level_lit vs (get_or b i 0) ≤ level_lit vs (get_or b best 0) → better vs b best i ≡ best
-better_old vs b best i h = rw (le-ltb (level_lit vs (get_or b best 0)) (level_lit vs (get_or b i 0)) h, better)
-
--- a literal of the buffer's part is of a variable
-pub place-lit : (m : ℕ) (b : List ℕ) (n i : ℕ) → n ≤ length b → LitsOf m (slice 1 n b) → 1 ≤ i → i < n → var (get_or b i 0) < m
-place-lit m b n i f h g l =
-    let e : 1 + (i - 1) ≡ i = omega arith in
-    let k : i - 1 < length (slice 1 n b) = rw (length-slice 1 n b f) (omega arith) in
-    subst (λ q. var q < m) (get_or-drop 1 (take n b) (i - 1) 0 ∙ ap (λ j. get_or (take n b) j 0) e ∙ get_or-take n b i 0 l) (h (i - 1) k)
-
--- best is the highest of the places before i, from 1 on
-pub record Ranking (vs : VarState) (b : List ℕ) (n best i : ℕ) : Type 0 where
+-- best is the highest of the literals b before place i, but the first
+pub record Ranking (vs : VarState) (b : List ℕ) (best i : ℕ) : Type 0 where
   pub low : 1 ≤ best
   pub under : best < i
-  pub inside : i ≤ n
-  pub rest : highest vs (best - 1) (level_lit vs (get_or b best 0)) (i - 1) (slice i n b) ≡ highest_place vs (slice 1 n b)
+  pub inside : i ≤ length b
+  pub rest : highest vs (best - 1) (level_lit vs (get_or b best 0)) (i - 1) (drop i b) ≡ highest_place vs (drop 1 b)
 
-module _ (vs : VarState) (b : List ℕ) (n : ℕ) (f : n ≤ length b) where
-  pub ranking_starts : 2 ≤ n → Ranking vs b n 1 2
+highest_more : (vs : VarState) (best level i l : ℕ) (ls : List ℕ) → level < level_lit vs l → highest vs best level i (l ∷ ls) ≡ highest vs i (level_lit vs l) (suc i) ls
+unfolding highest
+highest_more vs best level i l ls h = rw (lt-ltb level (level_lit vs l) h, highest)
+
+highest_same : (vs : VarState) (best level i l : ℕ) (ls : List ℕ) → level_lit vs l ≤ level → highest vs best level i (l ∷ ls) ≡ highest vs best level (suc i) ls
+unfolding highest
+highest_same vs best level i l ls h = rw (le-ltb level (level_lit vs l) h, highest)
+
+highest_end : (vs : VarState) (best level i : ℕ) → highest vs best level i [] ≡ best
+unfolding highest
+highest_end vs best level i = refl
+
+module _ {vs : VarState} {b : List ℕ} where
+  pub ranking_starts : 2 ≤ length b → Ranking vs b 1 2
   unfolding highest_place
   ranking_starts h =
-      record { low = omega arith; under = omega arith; inside = h; rest = sym (ap (highest_place vs) (slice-cons 1 n b 0 (omega arith) f)) }
+      record { low = omega arith; under = omega arith; inside = h; rest = sym (ap (highest_place vs) (drop-cons b 1 0 (omega arith))) }
 
-  highest_more : (best level i l : ℕ) (ls : List ℕ) → level < level_lit vs l → highest vs best level i (l ∷ ls) ≡ highest vs i (level_lit vs l) (suc i) ls
-  unfolding highest
-  highest_more best level i l ls h = rw (lt-ltb level (level_lit vs l) h, highest)
+  module _ {best i : ℕ} (r : Ranking vs b best i) where
+    module _ (h : i < length b) where
+      unrolled : highest vs (best - 1) (level_lit vs (get_or b best 0)) (i - 1) (get_or b i 0 ∷ drop (suc i) b) ≡ highest_place vs (drop 1 b)
+      unrolled = rw (← drop-cons b i 0 h) r.rest
 
-  highest_same : (best level i l : ℕ) (ls : List ℕ) → level_lit vs l ≤ level → highest vs best level i (l ∷ ls) ≡ highest vs best level (suc i) ls
-  unfolding highest
-  highest_same best level i l ls h = rw (le-ltb level (level_lit vs l) h, highest)
+      next : suc (i - 1) ≡ i
+      next = omega (arith, r.under)
 
-  highest_end : (best level i : ℕ) → highest vs best level i [] ≡ best
-  unfolding highest
-  highest_end best level i = refl
+      last : (i + 1) - 1 ≡ i
+      last = omega arith
 
-  pub ranking_turns : (best i : ℕ) → Ranking vs b n best i → i < n → Ranking vs b n (better vs b best i) (i + 1)
-  ranking_turns best i r h =
-      let c : slice i n b ≡ get_or b i 0 ∷ slice (suc i) n b = slice-cons i n b 0 h f in
-      let a : highest vs (best - 1) (level_lit vs (get_or b best 0)) (i - 1) (get_or b i 0 ∷ slice (suc i) n b) ≡ highest_place vs (slice 1 n b) = rw (← c) r.rest in
-      let s : suc (i - 1) ≡ i = omega (arith, r.under) in
-      let t : (i + 1) - 1 ≡ i = omega arith in
-      let u : i + 1 ≡ suc i = omega arith in
-      split (less? (level_lit vs (get_or b best 0)) (level_lit vs (get_or b i 0)))
-      (λ g. rw (better_new vs b best i g)
-      (record {
-        low = omega (arith, r.under);
-        under = omega arith;
-        inside = omega arith;
-        rest = rw (t, u) (rw s at (sym (highest_more (best - 1) (level_lit vs (get_or b best 0)) (i - 1) (get_or b i 0) (slice (suc i) n b) g)) ∙ a);
-      }))
-      (λ g. rw (better_old vs b best i g)
-      (record {
-        low = r.low;
-        under = omega (arith, r.under);
-        inside = omega arith;
-        rest = rw (t, u) (rw s at (sym (highest_same (best - 1) (level_lit vs (get_or b best 0)) (i - 1) (get_or b i 0) (slice (suc i) n b) g)) ∙ a);
-      }))
+      -- the one at i is higher
+      pub ranking_more : level_lit vs (get_or b best 0) < level_lit vs (get_or b i 0) → Ranking vs b i (i + 1)
+      ranking_more g =
+          record {
+            low = omega (arith, r.under);
+            under = omega arith;
+            inside = omega arith;
+            rest = rw (last, add-one i) (rw next at (sym (highest_more vs (best - 1) (level_lit vs (get_or b best 0)) (i - 1) (get_or b i 0) (drop (suc i) b) g)) ∙ unrolled);
+          }
 
-  pub ranking_ends : (best i : ℕ) → Ranking vs b n best i → n ≤ i → best ≡ 1 + highest_place vs (slice 1 n b)
-  ranking_ends best i r h =
-      let e : i ≡ n = omega (arith, r.inside) in
-      let z : slice i n b ≡ [] = rw e (slice_empty n b) in
-      let q : best - 1 ≡ highest_place vs (slice 1 n b) = sym (highest_end (best - 1) (level_lit vs (get_or b best 0)) (i - 1)) ∙ rw (← z) r.rest in
-      omega (arith, r.low)
+      pub ranking_same : level_lit vs (get_or b i 0) ≤ level_lit vs (get_or b best 0) → Ranking vs b best (i + 1)
+      ranking_same g =
+          record {
+            low = r.low;
+            under = omega (arith, r.under);
+            inside = omega arith;
+            rest = rw (last, add-one i) (rw next at (sym (highest_same vs (best - 1) (level_lit vs (get_or b best 0)) (i - 1) (get_or b i 0) (drop (suc i) b) g)) ∙ unrolled);
+          }
+
+    pub ranking_ends : length b ≤ i → best ≡ 1 + highest_place vs (drop 1 b)
+    ranking_ends h =
+        let q : best - 1 ≡ highest_place vs (drop 1 b) = sym (highest_end vs (best - 1) (level_lit vs (get_or b best 0)) (i - 1)) ∙ rw (← drop_of_length-le b h) r.rest in
+        omega (arith, r.low)
 
 -- it is one of the places
 highest-bound : (vs : VarState) (ls : List ℕ) (best level i : ℕ) → best < i → highest vs best level i ls < i + length ls
@@ -103,107 +89,73 @@ highest-bound vs (l ∷ ls) best level i h = split (less? level (level_lit vs l)
     (λ g. rw (lt-ltb level (level_lit vs l) g, highest) (omega (arith, highest-bound vs ls i (level_lit vs l) (suc i) (omega arith))))
     (λ g. rw (le-ltb level (level_lit vs l) g, highest) (omega (arith, highest-bound vs ls best level (suc i) (omega arith))))
 
-place-bound : (vs : VarState) (ls : List ℕ) → 0 < length ls → highest_place vs ls < length ls
+pub place_in : (vs : VarState) (b : List ℕ) → 2 ≤ length b → 1 + highest_place vs (drop 1 b) < length b
 unfolding highest_place
-place-bound vs [] h = absurd (omega arith)
-place-bound vs (l ∷ ls) h = omega (arith, highest-bound vs ls 0 (level_lit vs l) 1 (omega arith))
+place_in vs [] h = absurd (omega arith)
+place_in vs (x ∷ []) h = absurd (omega arith)
+place_in vs (x ∷ l ∷ ls) h = omega (arith, highest-bound vs ls 0 (level_lit vs l) 1 (omega arith))
 
-pub place_in : (vs : VarState) (b : List ℕ) (n : ℕ) → n ≤ length b → 2 ≤ n → 1 + highest_place vs (slice 1 n b) < n
-place_in vs b n f h =
-    let e : length (slice 1 n b) ≡ n - 1 = length-slice 1 n b f in
-    omega (arith, place-bound vs (slice 1 n b) (omega arith))
+-- ---- the change of places
 
--- the buffer with the highest literal second, and its level
-pub record Seconded (d : Sizes) (h : Header) (x : Whole) (n : ℕ) (w : List ℕ) (r : ℕ) : Type 0 where
-  pub held : Holds d h w (with_scratch x (with_buffer x.scratch (sets x.scratch.buffer 1 (highest_first x.assignment.vars (slice 1 n x.scratch.buffer)))))
-  pub level : r ≡ backtrack_level x.assignment.vars (highest_first x.assignment.vars (slice 1 n x.scratch.buffer))
+-- the cells, where the list ls begins in the second one
+abbrev pub swapped : VarState → List ℕ → List ℕ → List ℕ
+swapped vs [] cells = cells
+swapped vs (l ∷ ls) cells = let i = highest vs 0 (level_lit vs l) 1 ls in set (set cells 1 (get_or (l ∷ ls) i 0)) (suc i) l
 
-first_form : (vs : VarState) (ls : List ℕ) → 0 < length ls
-    → highest_first vs ls ≡ set (set ls 0 (get_or ls (highest_place vs ls) 0)) (highest_place vs ls) (get_or ls 0 0)
-unfolding highest_first highest_place
-first_form vs [] h = absurd (omega arith)
-first_form vs (l ∷ ls) h = refl
+-- the buffer with the highest literal second
+abbrev pub with_second : VarState → Row → Row
+with_second vs b = record { items = take 1 b.items ++ highest_first vs (drop 1 b.items); cells = swapped vs (drop 1 b.items) b.cells }
 
-level_form : (vs : VarState) (ls : List ℕ) → 0 < length ls → backtrack_level vs ls ≡ level_lit vs (get_or ls 0 0)
-unfolding backtrack_level
-level_form vs [] h = absurd (omega arith)
-level_form vs (l ∷ ls) h = refl
+-- and its level
+pub record Seconded (t : Assignment) (b b' : Row) (r : ℕ) : Type 0 where
+  pub buffer : b' ≡ with_second t.vars b
+  pub level : r ≡ backtrack_level t.vars (highest_first t.vars (drop 1 b.items))
 
--- what changes places with the first one is first
-first_now : (ls : List ℕ) (i : ℕ) → i < length ls → get_or (set (set ls 0 (get_or ls i 0)) i (get_or ls 0 0)) 0 0 ≡ get_or ls i 0
-first_now [] i h = absurd (omega arith)
-first_now (l ∷ ls) zero h = refl
-first_now (l ∷ ls) (suc i) h = refl
-
-module _ (d : Sizes) (h : Header) (w : List ℕ) (n : ℕ) (p : Rep d h w) (f : n ≤ 2 * d.vars) where
-  abbrev x : Whole
-  x = whole d h w
-
-  abbrev vs : VarState
-  vs = x.assignment.vars
-
-  abbrev b : List ℕ
-  b = x.scratch.buffer
-
-  fits : n ≤ length x.scratch.buffer
-  fits = omega (arith, buffer_length d h w p)
-
-  pub seconded-unit : n < 2 → Seconded d h x n w 0
+module _ (t : Assignment) (cells : List ℕ) where
+  few : (l : List ℕ) → length l < 2 → Seconded t (record { items = l; cells = cells }) (record { items = l; cells = cells }) 0
   unfolding highest_first backtrack_level
-  seconded-unit g =
-      let e : slice 1 n b ≡ [] = drop_of_length-le (take n b) {i = 1} (omega (arith, length-take-le n b fits)) in
-      record { held = record { rep = p; whole = rw e refl }; level = rw e refl }
+  few [] h = record { buffer = refl; level = refl }
+  few (x ∷ []) h = record { buffer = refl; level = refl }
+  few (x ∷ y ∷ ls) h = absurd (omega arith)
 
-  module _ (g : 2 ≤ n) (best : ℕ) (e : best ≡ 1 + highest_place vs (slice 1 n b)) where
-    abbrev ls : List ℕ
-    ls = slice 1 n b
+  -- what changes places with the first one is first
+  first_now : (ls : List ℕ) (i : ℕ) (l q : ℕ) → i < suc (length ls) → q ≡ get_or (l ∷ ls) i 0 → get_or (set (set (l ∷ ls) 0 q) i l) 0 0 ≡ q
+  first_now ls zero l q h e = sym e
+  first_now ls (suc i) l q h e = refl
 
-    abbrev i : ℕ
-    i = highest_place vs ls
+  level_form : (vs : VarState) (ls : List ℕ) → 0 < length ls → backtrack_level vs ls ≡ level_lit vs (get_or ls 0 0)
+  unfolding backtrack_level
+  level_form vs [] h = absurd (omega arith)
+  level_form vs (l ∷ ls) h = refl
 
-    size : length ls ≡ n - 1
-    size = length-slice 1 n b fits
+  best_is : (x y : ℕ) (ls : List ℕ) (best : ℕ) → best ≡ 1 + highest_place t.vars (drop 1 (x ∷ y ∷ ls)) → best ≡ suc (highest t.vars 0 (level_lit t.vars y) 1 ls)
+  unfolding highest_place
+  best_is x y ls best e = omega (arith, e)
 
-    some : 0 < length ls
-    some = omega (arith, size)
+  many : (l : List ℕ) → 2 ≤ length l → (best : ℕ) → best ≡ 1 + highest_place t.vars (drop 1 l)
+      → Seconded t (record { items = l; cells = cells })
+      (put (put (record { items = l; cells = cells }) 1 (get_or l best 0)) best (get_or l 1 0)) (level_lit t.vars (get_or l best 0))
+  unfolding highest_first highest_place
+  many [] h best e = absurd (omega arith)
+  many (x ∷ []) h best e = absurd (omega arith)
+  many (x ∷ y ∷ ls) h best e =
+      let i = highest t.vars 0 (level_lit t.vars y) 1 ls in
+      let b : i < suc (length ls) = omega (arith, highest-bound t.vars ls 0 (level_lit t.vars y) 1 (omega arith)) in
+      subst
+      (λ (k : ℕ). Seconded t (record { items = x ∷ y ∷ ls; cells = cells })
+      (put (put (record { items = x ∷ y ∷ ls; cells = cells }) 1 (get_or (x ∷ y ∷ ls) k 0)) k y) (level_lit t.vars (get_or (x ∷ y ∷ ls) k 0)))
+      (sym (best_is x y ls best e))
+      (record {
+        buffer = refl;
+        level =
+            ap (level_lit t.vars) (sym (first_now ls i y (get_or (y ∷ ls) i 0) b refl))
+            ∙ sym (level_form t.vars (set (set (y ∷ ls) 0 (get_or (y ∷ ls) i 0)) i y) (rw length-set (rw length-set (omega arith))));
+      })
 
-    inside : i < length ls
-    inside = place-bound vs ls some
+module _ (t : Assignment) (b : Row) where
+  pub seconded-unit : length b.items < 2 → Seconded t b b 0
+  seconded-unit g = few t b.cells b.items g
 
-    lit_at : (j : ℕ) → j < length ls → get_or ls j 0 ≡ get_or b (1 + j) 0
-    lit_at j k = get_or-drop 1 (take n b) j 0 ∙ get_or-take n b (1 + j) 0 (omega (arith, size))
-
-    best_is : get_or ls i 0 ≡ get_or b best 0
-    best_is = lit_at i inside ∙ ap (λ j. get_or b j 0) (sym e)
-
-    first_is : get_or ls 0 0 ≡ get_or b 1 0
-    first_is = lit_at 0 some
-
-    pub best_in : best < n
-    best_in = omega (arith, e, place_in vs b n fits g)
-
-    pub best_var : LitsOf d.vars (slice 1 n b) → var (get_or b best 0) < d.vars
-    best_var k = place-lit d.vars b n best fits k (omega (arith, e)) best_in
-
-    stays : sets b 1 ls ≡ b
-    stays =
-        let m : 1 + length ls ≡ n = omega (arith, size) in
-        sets_same b 0 1 ls (omega (arith, fits)) (ap (λ j. slice 1 j b) m)
-
-    swapped : set (set b 1 (get_or b best 0)) best (get_or b 1 0) ≡ sets b 1 (highest_first vs ls)
-    swapped =
-        let o : 1 + 0 ≡ 1 = omega arith in
-        let l : i < length (set ls 0 (get_or ls i 0)) = rw length-set inside in
-        rw (first_form vs ls some, sets-set b 1 (set ls 0 (get_or ls i 0)) i (get_or ls 0 0) l, sets-set b 1 ls 0 (get_or ls i 0) some, stays, best_is, first_is, ← e) refl
-
-    pub seconded_swap : (w₁ : List ℕ) → Holds d h w₁ (with_scratch x (buffered x.scratch 1 (get_or b best 0)))
-        → (w₂ : List ℕ) → Holds d h w₂ (with_scratch (whole d h w₁) (buffered (whole d h w₁).scratch best (get_or b 1 0)))
-        → (r : ℕ) → r ≡ level_lit vs (get_or b best 0) → Seconded d h x n w₂ r
-    seconded_swap w₁ e₁ w₂ e₂ r k =
-        record {
-          held = record {
-            rep = e₂.rep;
-            whole = e₂.whole ∙ rw e₁.whole (ap (λ y. with_scratch x (with_buffer x.scratch y)) swapped);
-          };
-          level = k ∙ ap (level_lit vs) (sym best_is ∙ sym (first_now ls i inside)) ∙ sym (rw (first_form vs ls some) (level_form vs _ (rw (length-set, length-set) some)));
-        }
+  pub seconded_swap : 2 ≤ length b.items → (best : ℕ) → best ≡ 1 + highest_place t.vars (drop 1 b.items)
+      → Seconded t b (put (put b 1 (get_or b.items best 0)) best (get_or b.items 1 0)) (level_lit t.vars (get_or b.items best 0))
+  seconded_swap g best e = many t b.cells b.items g best e

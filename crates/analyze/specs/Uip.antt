@@ -1,148 +1,109 @@
 -- The walk starts at the false clause, and ends at the definition's first UIP.
-use Rattle.std.specs.Prelude.{ℕ, zero, suc, ◌+◌, ◌*◌, ◌-◌, ◌≤◌, ◌<◌, ◌≡◌, refl, List, [], ◌∷◌, reverse, length, get_or, drop, replicate, Float}
-use Rattle.std.proofs.Common.{arith, sym, ◌∙◌, subst}
-use Rattle.std.proofs.Math.Path.{ap}
+use Rattle.std.specs.Prelude.{ℕ, zero, suc, ◌<◌, ◌≡◌, refl, List, [], ◌∷◌, reverse, length, get_or, replicate}
+use Rattle.std.proofs.Common.{arith, sym, ap, ◌∙◌, length-set}
 use mathlib.Core.List.Memᴰ.{not-nil}
-use Rattle.std.proofs.Math.Seq.{slice, slice_empty}
-use Rattle.model.specs.Lit.{var, neg}
-use Rattle.model.specs.State.{Store, VarState, Activity, Solver, State, decision_level, clause_at}
+use Rattle.model.specs.Script.{Config}
+use Rattle.model.specs.State.{Store, VarState, Activity, Solver, State, reason_rest}
+use Rattle.model.specs.Minimise.{is_seen}
 use Rattle.model.specs.Analyze.{Resolvent, join, resolve, first_uip}
-use Rattle.lawbase.specs.Basics.{◌∈◌, Every}
-use Rattle.lawbase.specs.WellFormed.{Entries}
+use Rattle.lawbase.specs.Basics.{◌∈◌, Every, split, on?, less?}
+use Rattle.lawbase.specs.WellFormed.{Proper}
 use Rattle.learning.proofs.Trail.{in_reverse}
-use Rattle.learning.specs.Join.{Inv}
+use Rattle.learning.proofs.Turn.{resolve_skip, resolve_stop, resolve_on}
+use Rattle.learning.specs.Turn.{less}
 use Rattle.learning.specs.Uip.{nothing}
-use Rattle.learning.proofs.Uip.{nothing_inv, begun, begun_law, begun_path}
+use Rattle.learning.proofs.Uip.{nothing_inv, begun_law, begun_path}
 use Rattle.learning.specs.FirstUip.{Conflict}
-use Rattle.activity.specs.Activities.{activity}
-use Rattle.store.specs.View.{clause_of}
-use Rattle.state.specs.View.{Whole, whole, state_of, Rep, Holds, with_scratch}
-use Rattle.state.specs.Still.{Still, state_at, config_of}
-use Rattle.state.specs.declared.Sizes.{Sizes}
-use Rattle.state.specs.declared.Header.{Header}
-use Rattle.state.specs.declared.Config.{Config}
-use Rattle.analyze.specs.declared.Joined.{Joined}
-use Rattle.analyze.specs.Resolving.{so_far, Resolving, buffer_length, is_so_far, and_then, none_yet, resolvent_same}
-use Rattle.analyze.specs.Joining.{Joinable, learnt_room}
-use Rattle.analyze.specs.Walking.{older, older-all, Walking}
+use Rattle.trail.specs.View.{Assignment, LitsOf}
+use Rattle.store.specs.View.{Clauses, clause_of}
+use Rattle.scratch.specs.declared.Scratch.{Scratch}
+use Rattle.analyze.specs.Resolving.{so_far, Laid, opened}
+use Rattle.analyze.specs.Joining.{Sized, Joinable, Joins, sized_then, join_sized}
+use Rattle.analyze.specs.Walking.{older, older-all, stored, trail_lits, Walking}
+
+-- Clause confl is false, nothing is marked, and there is room for what is learnt.
+pub record Conflicted (t : Assignment) (c : Clauses) (x : Scratch) (a : Activity) (confl : ℕ) : Type 0 where
+  pub sized : Sized t x a
+  pub marks : x.marks ≡ replicate (length t.vars.values) 0
+  pub proper : Every (Proper (length t.vars.values)) c.clauses
+  pub conflict : Conflict (length t.vars.values) (stored c) t.vars confl
 
 -- the definition's solver
 abbrev pub solver : State → Activity → Solver
 solver s a = record { state = s; activity = a }
 
--- the clause at the first UIP, from what the slices hold
-abbrev pub uip_of : Config → Header → List ℕ → List Float → Float → ℕ → Resolvent
-uip_of g h w acts inc confl = first_uip (config_of g) (solver (state_at g h w) (activity acts inc)) confl
+-- The scratch block has the clause at the first UIP, as the definition has it in each state with these clauses and this assignment.
+pub record Uip (t : Assignment) (c : Clauses) (x x' : Scratch) (a a' : Activity) (confl : ℕ) : Type 0 where
+  pub is : (cfg : Config) (s : State) → cfg.variables ≡ length t.vars.values → s.store.clauses ≡ c.clauses → s.vars ≡ t.vars
+      → Laid x x' a' (first_uip cfg (solver s a) confl)
 
-abbrev pub empty : Float → Joined
-empty inc = record { path = 0; learnt = 1; inc = inc }
+-- the watches are not read
+resolve_same : (st st' : Store) (vs : VarState) → st.clauses ≡ st'.clauses → (ps : List ℕ) (k : Resolvent) → resolve st vs ps k ≡ resolve st' vs ps k
+unfolding resolve
+resolve_same st st' vs e [] k = refl
+resolve_same st st' vs e (p ∷ ps) k = split (on? (is_seen k.seen p))
+    (λ s. split (less? 1 k.path)
+    (λ m.
+    resolve_on st vs p ps k s m
+    ∙ resolve_same st st' vs e ps (join vs (reason_rest st vs p) (less p k))
+    ∙ ap (λ (cs : List (List ℕ)). resolve st' vs ps (join vs (reason_rest (record { clauses = cs; watches = [] }) vs p) (less p k))) e
+    ∙ sym (resolve_on st' vs p ps k s m))
+    (λ m. resolve_stop st vs p ps k s m ∙ sym (resolve_stop st' vs p ps k s m)))
+    (λ s. resolve_skip st vs p ps k s ∙ resolve_same st st' vs e ps k ∙ sym (resolve_skip st' vs p ps k s))
 
 stored_in : (cs : List (List ℕ)) (c q : ℕ) → q ∈ get_or cs c [] → c < length cs
 stored_in [] c q i = absurd (not-nil i)
 stored_in (x ∷ cs) zero q i = omega arith
 stored_in (x ∷ cs) (suc c) q i = omega (arith, stored_in cs c q i)
 
-module _ (g : Config) (h : Header) (w : List ℕ) (acts : List Float) (inc : Float) (confl : ℕ) (s : Still g h w)
-    (c : Conflict g.sizes.vars (state_at g h w).store (state_at g h w).vars confl) (sz : length acts ≡ g.sizes.vars) where
-  abbrev d : Sizes
-  d = g.sizes
+-- where the walk ends
+abbrev pub uip_of : Assignment → Clauses → Activity → ℕ → Resolvent
+uip_of t c a confl = resolve (stored c) t.vars (reverse t.vars.trail) (join t.vars (clause_of c confl) (nothing (length t.vars.values) a))
 
-  abbrev x : Whole
-  x = whole g.sizes h w
+module _ {t : Assignment} {c : Clauses} {x : Scratch} {a : Activity} {confl : ℕ} (k : Conflicted t c x a confl) where
+  pub first_stored : confl < length c.clauses
+  first_stored = stored_in c.clauses confl k.conflict.top.0 k.conflict.top.1
 
-  abbrev vs : VarState
-  vs = x.assignment.vars
+  is_nothing : so_far (opened x) a 0 ≡ nothing (length t.vars.values) a
+  is_nothing = ap (λ (m : List ℕ). record { seen = m; path = 0; learnt = []; activity = a }) k.marks
 
-  is_nothing : so_far x acts (empty inc) ≡ nothing d.vars (activity acts inc)
-  is_nothing = resolvent_same s.idle.marks refl (slice_empty 1 x.scratch.buffer) refl
+  pub first_joins : Joinable t (opened x) a 0 (clause_of c confl)
+  first_joins =
+      record {
+        sized = record { most = k.sized.most; buffer = rw length-set k.sized.buffer; activity = k.sized.activity };
+        first = omega arith;
+        stored = c.clauses;
+        left = reverse t.vars.trail;
+        entries = k.conflict.assignment.entries;
+        inv = rw is_nothing (nothing_inv (length t.vars.values) t.vars (reverse t.vars.trail) a);
+        falsified = λ q i. in_reverse t.vars.trail (k.conflict.falsified q i);
+      }
 
-  pub first_asks : Rep d h w × (
-      (confl < length x.clauses.clauses) × (
-      (0 ≤ length (clause_of x.clauses confl))
-      × Joinable d.vars x acts (empty inc) (drop 0 (clause_of x.clauses confl))
-      )
-      )
-  first_asks = (
-    s.rep,
-    (
-      stored_in x.clauses.clauses confl c.top.0 c.top.1,
-      (
-        omega arith,
+  pub conflicted_lits : LitsOf (length t.vars.values) t.vars.trail
+  conflicted_lits = trail_lits (length t.vars.values) c.clauses t.vars k.conflict.assignment.entries
+
+  module _ {x₁ : Scratch} {a₁ : Activity} {path₁ : ℕ} (m : Joins t (opened x) x₁ a a₁ 0 path₁ (clause_of c confl)) where
+    begun_is : so_far x₁ a₁ path₁ ≡ join t.vars (clause_of c confl) (nothing (length t.vars.values) a)
+    begun_is = m.holds ∙ ap (join t.vars (clause_of c confl)) is_nothing
+
+    same_sized : length a₁.activities ≡ length a.activities
+    same_sized = ap (λ (r : Resolvent). length r.activity.activities) m.holds ∙ join_sized t.vars (clause_of c confl) (so_far (opened x) a 0)
+
+    pub walk_starts : {i : ℕ} → i ≡ length t.vars.trail → Walking t c x (uip_of t c a confl) i x₁ a₁ path₁
+    walk_starts {i} e =
+        let all : older t.vars.trail i ≡ reverse t.vars.trail = rw e (older-all t.vars.trail) in
         record {
-          first = omega arith;
-          room = omega (arith, s.rep.room.some);
-          sized = sz;
-          left = reverse vs.trail;
-          entries = c.assignment.entries;
-          inv = rw is_nothing (nothing_inv d.vars vs (reverse vs.trail) (activity acts inc));
-          falsified = λ q i. in_reverse vs.trail (c.falsified q i);
-        },
-      ),
-    ),
-  )
-
-  abbrev begins : Resolvent
-  begins = join vs (drop 0 (clause_of x.clauses confl)) (so_far x acts (empty inc))
-
-  begins_is : begins ≡ begun d.vars (state_at g h w).store vs confl c (activity acts inc)
-  begins_is = ap (join vs (clause_of x.clauses confl)) is_nothing
-
-  begins_inv : Inv d.vars vs (reverse vs.trail) begins
-  begins_inv = rw begins_is (begun_law d.vars (state_at g h w).store vs confl c (activity acts inc)).0
-
-  begins_pos : 0 < begins.path
-  begins_pos = rw begins_is (begun_path d.vars (state_at g h w).store vs confl c (activity acts inc))
-
-  is_uip : resolve (state_at g h w).store vs (older vs.trail (length vs.trail)) begins ≡ uip_of g h w acts inc confl
-  unfolding first_uip
-  is_uip =
-      ap (λ t. resolve (state_at g h w).store vs t begins) (older-all vs.trail)
-      ∙ ap (λ k. resolve (state_at g h w).store vs (reverse vs.trail) k) begins_is
-
-  module _ (w₀ : List ℕ) (acts₀ : List Float) (r₀ : Joined) (u : Resolving d h x 1 w₀ acts₀ r₀ begins) where
-    begins_fits : 1 + length begins.learnt ≤ 2 * d.vars
-    begins_fits = omega (arith, learnt_room d.vars x.clauses.clauses vs (reverse vs.trail) c.assignment.entries begins begins_inv, s.rep.room.some)
-
-    begins_held : so_far (whole d h w₀) acts₀ r₀ ≡ begins
-    begins_held = is_so_far d h x w₀ acts₀ r₀ begins (rw (buffer_length d h w s.rep) begins_fits) u
-
-    same_vars : (whole d h w₀).assignment ≡ x.assignment
-    same_vars = ap (λ y. y.assignment) u.held.whole
-
-    same_clauses : (whole d h w₀).clauses ≡ x.clauses
-    same_clauses = ap (λ y. y.clauses) u.held.whole
-
-    pub walk_starts : length acts₀ ≡ length acts → (i : ℕ) → i ≡ length (whole d h w₀).assignment.vars.trail
-        → Walking d h (whole d h w₀) acts₀ r₀ i w₀ acts₀ r₀
-    walk_starts n i e =
-        let all : older (whole d h w₀).assignment.vars.trail i ≡ reverse vs.trail = rw (e, same_vars) (older-all vs.trail) in
-        record {
-          made = none_yet d h w₀ acts₀ r₀ u.held.rep (omega (arith, u.learnt)) (omega (arith, u.learnt, begins_fits));
-          buffer = buffer_length d h w₀ u.held.rep;
-          sized = n ∙ sz;
-          proper = rw same_clauses s.formed.store.proper;
-          deep = rw same_vars c.deep;
+          behind = m.behind;
+          sized = sized_then first_joins.sized m.behind same_sized;
+          proper = k.proper;
+          deep = k.conflict.deep;
           inside = omega arith;
-          entries = rw (all, same_vars, same_clauses) c.assignment.entries;
-          inv = rw (all, same_vars, begins_held) begins_inv;
-          pos = omega (arith, u.path, begins_pos);
-          same = rw e refl;
-          grown = omega arith;
+          entries = rw all k.conflict.assignment.entries;
+          inv = rw (all, begun_is) (begun_law (length t.vars.values) (stored c) t.vars confl k.conflict a).0;
+          pos = omega (arith, ap (λ (r : Resolvent). r.path) begun_is, begun_path (length t.vars.values) (stored c) t.vars confl k.conflict a);
+          same = rw (all, begun_is) refl;
         }
 
-    pub walk_is : (w' : List ℕ) (acts' : List Float) (r' : Joined) → r₀.learnt ≤ r'.learnt → r'.learnt ≤ d.vars
-        → Resolving d h (whole d h w₀) 0 w' acts' r' (resolve (state_of h (whole d h w₀)).store (whole d h w₀).assignment.vars
-        (older (whole d h w₀).assignment.vars.trail (length (whole d h w₀).assignment.vars.trail)) (so_far (whole d h w₀) acts₀ r₀))
-        → Resolving d h x 0 w' acts' r' (uip_of g h w acts inc confl)
-    walk_is w' acts' r' grow room v =
-        and_then d h x w₀ acts₀ r₀ begins 1 u 0 w' acts' r' (uip_of g h w acts inc confl) (omega arith) (omega (arith, u.learnt, v_uip.learnt))
-        (omega (arith, v_uip.learnt, buffer_length d h w s.rep)) v_uip
-      where
-        v_uip : Resolving d h (whole d h w₀) 0 w' acts' r' (uip_of g h w acts inc confl)
-        v_uip =
-            subst (λ k. Resolving d h (whole d h w₀) 0 w' acts' r' k)
-            (ap (λ y. resolve (state_of h y).store y.assignment.vars (older y.assignment.vars.trail (length y.assignment.vars.trail)) (so_far (whole d h w₀) acts₀ r₀))
-            u.held.whole
-            ∙ ap (λ k. resolve (state_at g h w).store vs (older vs.trail (length vs.trail)) k) begins_held
-            ∙ is_uip)
-            v
+  pub uip_is : {x' : Scratch} {a' : Activity} → Laid x x' a' (uip_of t c a confl) → Uip t c x x' a a' confl
+  unfolding first_uip
+  uip_is {x'} {a'} l = record { is = λ cfg s n e v. rw (resolve_same s.store (stored c) s.vars e, v, e, n) l }

@@ -1,36 +1,27 @@
 -- Back along the trail: the last marked place, a literal resolved with its reason, the first UIP.
-use Prim.Native.Nat.{ℕ, zero, suc, ◌+◌, ◌*◌, ◌-◌, ◌≤◌, ◌<◌}
-use Rattle.std.proofs.Common.{arith, sym, ap, ◌∙◌, subst, true≢false, length-set, eqb-true, eq-eqb, ne_eqb}
-use Rattle.std.specs.Prelude.{◌≡◌, ◌≢◌, Bool, true, false, length, get_or, set, drop, replicate, eqb, Float}
+use Prim.Native.Nat.{ℕ, zero, suc, ◌-◌, ◌≤◌, ◌<◌}
+use Rattle.std.proofs.Common.{arith, sym, ap, ◌∙◌, length-drop, take_all, ne_eqb}
+use Rattle.std.specs.Prelude.{◌≡◌, ◌≢◌, true, false, length, get_or, set, take, drop, Option, Some}
 use Rattle.std.proofs.Math.Path.{refl}
 use mathlib.Core.List.{List, [], ◌∷◌, ◌++◌, reverse, reverse-cons}
-use Rattle.std.proofs.lemmas.List.Edits.{sets}
-use Rattle.std.proofs.Math.Seq.{slice, slice_empty}
-use Rattle.model.specs.Lit.{var, neg}
-use Rattle.model.specs.State.{Store, VarState, Activity, Solver, State, decision_level, level_lit, reason_lit, clause_at, reason_rest}
+use Rattle.model.specs.Lit.{var, neg, undef_lit, no_reason}
+use Rattle.model.specs.State.{Store, VarState, Activity, decision_level, level_lit, reason_lit, reason_rest}
 use Rattle.model.specs.Minimise.{is_seen}
-use Rattle.model.specs.Analyze.{Resolvent, join, resolve, first_uip}
-use Rattle.lawbase.specs.Basics.{◌∈◌, Every, split, on?, less?, var_range}
+use Rattle.model.specs.Analyze.{Resolvent, join, resolve}
+use Rattle.lawbase.specs.Basics.{Every, split, on?, less?, var_range}
 use Rattle.lawbase.specs.WellFormed.{Entries, Proper, Implies}
 use Rattle.learning.proofs.Trail.{index_in}
 use Rattle.learning.specs.Join.{Inv}
 use Rattle.learning.specs.Turn.{less, stopped}
 use Rattle.learning.proofs.Turn.{resolve_skip, resolve_stop, resolve_on, turn_skips, inv_less, top_seen, reason_of, turn_joins, not_empty}
-use Rattle.learning.proofs.Room.{learnt_short}
-use Rattle.learning.specs.Uip.{nothing}
-use Rattle.learning.proofs.Uip.{begun_law, begun_path}
-use Rattle.learning.specs.FirstUip.{Conflict}
-use Rattle.activity.specs.Activities.{activity}
-use Rattle.scratch.specs.View.{marked, buffered}
-use Rattle.trail.specs.View.{LitsOf}
-use Rattle.store.specs.View.{clause_of}
-use Rattle.state.specs.View.{Whole, whole, state_of, Rep, Holds, with_scratch}
-use Rattle.state.specs.declared.Sizes.{Sizes}
-use Rattle.state.specs.declared.Header.{Header}
-use Rattle.analyze.specs.declared.Joined.{Joined}
-use Rattle.analyze.specs.Places.{sets_same, slice-set_before}
-use Rattle.analyze.specs.Resolving.{so_far, laid, Resolving, buffer_length, is_so_far, and_then, none_yet}
-use Rattle.analyze.specs.Joining.{Joinable, join_longer, learnt_room}
+use Rattle.clause.specs.Cells.{reason_at}
+use Rattle.trail.specs.View.{Assignment, LitsOf}
+use Rattle.store.specs.View.{Clauses, clause_of}
+use Rattle.scratch.specs.Row.{Row, put}
+use Rattle.scratch.specs.declared.Scratch.{Scratch}
+use Rattle.analyze.specs.Places.{sets_first}
+use Rattle.analyze.specs.Resolving.{so_far, Behind, Makes, Laid, laid, opened, behind_then, behind_items}
+use Rattle.analyze.specs.Joining.{Sized, Joinable, sized_then, join_sized}
 
 -- ---- the trail, from its place i back
 
@@ -61,19 +52,16 @@ last_no : (m t : List ℕ) (i : ℕ) → is_seen m (get_or t i 0) ≡ false → 
 unfolding last_seen
 last_no m t i e = rw (e, last_seen)
 
-pub last_here : (m t : List ℕ) (k : ℕ) → 0 < k → get_or m (var (get_or t (k - 1) 0)) 0 ≡ 1 → last_seen m t k ≡ k - 1
+-- the literal before place k is marked, or is not
+pub last_here : (m t : List ℕ) (k : ℕ) → 0 < k → is_seen m (get_or t (k - 1) 0) ≡ true → last_seen m t k ≡ k - 1
 last_here m t zero h e = absurd (omega arith)
-last_here m t (suc k) h e =
-    let s : suc k - 1 ≡ k = omega arith in
-    rw s (last_yes m t k (eq-eqb (get_or m (var (get_or t k 0)) 0) 1 (rw s at e)))
+last_here m t (suc k) h e = let s : suc k - 1 ≡ k = omega arith in rw s (last_yes m t k (rw s at e))
 
-pub last_later : (m t : List ℕ) (k : ℕ) → 0 < k → get_or m (var (get_or t (k - 1) 0)) 0 ≢ 1 → last_seen m t (k - 1) ≡ last_seen m t k
+pub last_later : (m t : List ℕ) (k : ℕ) → 0 < k → is_seen m (get_or t (k - 1) 0) ≡ false → last_seen m t (k - 1) ≡ last_seen m t k
 last_later m t zero h e = absurd (omega arith)
-last_later m t (suc k) h e =
-    let s : suc k - 1 ≡ k = omega arith in
-    rw s (sym (last_no m t k (ne_eqb (get_or m (var (get_or t k 0)) 0) 1 (rw s at e))))
+last_later m t (suc k) h e = let s : suc k - 1 ≡ k = omega arith in rw s (sym (last_no m t k (rw s at e)))
 
-pub last_none : (m t : List ℕ) (k : ℕ) → k ≤ 0 → last_seen m t k ≡ k
+pub last_none : (m t : List ℕ) (k : ℕ) → k ≤ 0 → 0 ≡ last_seen m t k
 unfolding last_seen
 last_none m t zero h = refl
 last_none m t (suc k) h = absurd (omega arith)
@@ -105,243 +93,167 @@ module _ (n : ℕ) (st : Store) (vs : VarState) (k : Resolvent) (pos : 0 < k.pat
 
 -- ---- a turn
 
+-- the store of these clauses; nothing here reads its watches
+abbrev pub stored : Clauses → Store
+stored c = record { clauses = c.clauses; watches = [] }
+
 -- The literal at place i of the trail is the newest of the resolvent, and of the conflict's level.
-pub record Turning (n : ℕ) (x : Whole) (acts : List Float) (r : Joined) (i : ℕ) : Type 0 where
-  pub first : 1 ≤ r.learnt
-  pub room : r.learnt ≤ 2 * n
-  pub sized : length acts ≡ n
-  pub proper : Every (Proper n) x.clauses.clauses
-  pub deep : 0 < decision_level x.assignment.vars
-  pub inside : i < length x.assignment.vars.trail
-  pub entries : Entries n x.clauses.clauses x.assignment.vars (get_or x.assignment.vars.trail i 0 ∷ older x.assignment.vars.trail i)
-  pub inv : Inv n x.assignment.vars (get_or x.assignment.vars.trail i 0 ∷ older x.assignment.vars.trail i) (so_far x acts r)
-  pub seen : is_seen x.scratch.marks (get_or x.assignment.vars.trail i 0) ≡ true
-  pub top : level_lit x.assignment.vars (get_or x.assignment.vars.trail i 0) ≡ decision_level x.assignment.vars
+pub record Turning (t : Assignment) (c : Clauses) (x : Scratch) (a : Activity) (path i : ℕ) : Type 0 where
+  pub sized : Sized t x a
+  pub first : 1 ≤ length x.buffer.items
+  pub proper : Every (Proper (length t.vars.values)) c.clauses
+  pub deep : 0 < decision_level t.vars
+  pub inside : i < length t.vars.trail
+  pub entries : Entries (length t.vars.values) c.clauses t.vars (get_or t.vars.trail i 0 ∷ older t.vars.trail i)
+  pub inv : Inv (length t.vars.values) t.vars (get_or t.vars.trail i 0 ∷ older t.vars.trail i) (so_far x a path)
+  pub seen : is_seen x.marks (get_or t.vars.trail i 0) ≡ true
+  pub top : level_lit t.vars (get_or t.vars.trail i 0) ≡ decision_level t.vars
 
--- what the literal is resolved with, in the code's words
-abbrev pub resolved : Whole → List Float → Joined → ℕ → Resolvent
-resolved x acts r i =
-    join x.assignment.vars (drop 1 (clause_of x.clauses (reason_lit x.assignment.vars (get_or x.assignment.vars.trail i 0))))
-    (less (get_or x.assignment.vars.trail i 0) (so_far x acts r))
+-- what p is resolved with
+abbrev pub resolved : Assignment → Clauses → ℕ → Resolvent → Resolvent
+resolved t c p k = join t.vars (drop 1 (clause_of c (reason_lit t.vars p))) (less p k)
 
-abbrev pub without : Joined → Joined
-without r = record { path = r.path - 1; learnt = r.learnt; inc = r.inc }
+abbrev pub Resolves : Assignment → Clauses → Scratch → Scratch → Activity → Activity → ℕ → ℕ → ℕ → Type 0
+Resolves t c x x' a a' path path' i = Makes x x' a' path' (resolved t c (get_or t.vars.trail i 0) (so_far x a path))
 
-module _ (d : Sizes) (h : Header) (w : List ℕ) (acts : List Float) (r : Joined) (i : ℕ) (p : Rep d h w) (t : Turning d.vars (whole d h w) acts r i) where
-  abbrev x : Whole
-  x = whole d h w
+rest_of : (l : List ℕ) → take (length l - 1) (drop 1 l) ≡ drop 1 l
+rest_of l = take_all (length l - 1) (drop 1 l) (rw length-drop (omega arith))
 
-  abbrev vs : VarState
-  vs = x.assignment.vars
-
+module _ {t : Assignment} {c : Clauses} {x : Scratch} {a : Activity} {path i : ℕ} (u : Turning t c x a path i) where
   abbrev lit : ℕ
-  lit = get_or vs.trail i 0
+  lit = get_or t.vars.trail i 0
 
-  pub turn_var : var lit < d.vars
-  turn_var = var_range lit d.vars t.entries.0.range
+  pub turn_var : var lit < length t.vars.values
+  turn_var = var_range lit (length t.vars.values) u.entries.0.range
 
-  module _ (more : 1 < r.path) where
-    because : Implies x.clauses.clauses (reason_lit vs lit) lit (older vs.trail i)
-    because = (reason_of d.vars x.clauses.clauses vs lit (older vs.trail i) t.entries (so_far x acts r) t.inv t.seen t.top more t.deep).1
+  pub turn_marks : length x.marks ≡ length t.vars.values
+  turn_marks = u.inv.sized
+
+  module _ (more : 1 < path) where
+    because : (reason_lit t.vars lit ≢ no_reason) × Implies c.clauses (reason_lit t.vars lit) lit (older t.vars.trail i)
+    because = reason_of (length t.vars.values) c.clauses t.vars lit (older t.vars.trail i) u.entries (so_far x a path) u.inv u.seen u.top more u.deep
+
+    -- the code reads it there
+    pub turn_reason : {v : ℕ} {o : Option ℕ} → v ≡ var lit → o ≡ reason_at (get_or t.vars.reasons v 0) → o ≡ Some (reason_lit t.vars lit)
+    turn_reason e f = f ∙ ap (λ (n : ℕ). reason_at (get_or t.vars.reasons n 0)) e ∙ rw (ne_eqb (reason_lit t.vars lit) no_reason because.0, reason_at)
+
+    pub turn_is : {v r : ℕ} {o : Option ℕ} → v ≡ var lit → o ≡ reason_at (get_or t.vars.reasons v 0) → o ≡ Some r → r ≡ reason_lit t.vars lit
+    turn_is e f g = cc (turn_reason e f, g)
+
+    pub turn_some : 1 ≤ length (clause_of c (reason_lit t.vars lit))
+    turn_some = omega (arith, (u.proper (clause_of c (reason_lit t.vars lit)) (index_in c.clauses (reason_lit t.vars lit) [] because.1.stored)).two)
 
     -- the mark is taken back
-    module _ (w₁ : List ℕ) (e : Holds d h w₁ (with_scratch x (marked x.scratch (var lit) 0))) where
-      pub turn_asks : Rep d h w₁ × (
-          (reason_lit vs lit < length (whole d h w₁).clauses.clauses) × (
-          (1 ≤ length (clause_of (whole d h w₁).clauses (reason_lit vs lit)))
-          × Joinable d.vars (whole d h w₁) acts (without r) (drop 1 (clause_of (whole d h w₁).clauses (reason_lit vs lit)))
-          )
-          )
-      turn_asks = (
-        e.rep,
-        rw e.whole (
-          because.stored,
-          (
-            omega (arith, (t.proper (clause_of x.clauses (reason_lit vs lit)) (index_in x.clauses.clauses (reason_lit vs lit) [] because.stored)).two),
-            record {
-              first = t.first;
-              room = t.room;
-              sized = t.sized;
-              left = older vs.trail i;
-              entries = t.entries.1;
-              inv = inv_less d.vars x.clauses.clauses vs lit (older vs.trail i) t.entries (so_far x acts r) t.inv t.seen t.top;
-              falsified = because.false_rest;
-            },
-          ),
-        ),
-      )
-
-      pub turn_makes : (w₂ : List ℕ) (acts₂ : List Float) (r₂ : Joined)
-          → Resolving d h (whole d h w₁) 1 w₂ acts₂ r₂
-          (join (whole d h w₁).assignment.vars (drop 1 (clause_of (whole d h w₁).clauses (reason_lit vs lit))) (so_far (whole d h w₁) acts (without r)))
-          → Resolving d h x 1 w₂ acts₂ r₂ (resolved x acts r i)
-      turn_makes w₂ acts₂ r₂ u =
-          let v = rw e.whole at u in
-          record { held = v.held; path = v.path; learnt = v.learnt; activity = v.activity }
-
--- the negation of the literal at place i stands first
-pub stop_makes : (d : Sizes) (h : Header) (w : List ℕ) (r : Joined) (p : ℕ) → Rep d h w → 1 ≤ r.learnt → r.learnt ≤ 2 * d.vars
-    → (w₁ : List ℕ) → Holds d h w₁ (with_scratch (whole d h w) (marked (whole d h w).scratch (var p) 0))
-    → (w₂ : List ℕ) → Holds d h w₂ (with_scratch (whole d h w₁) (buffered (whole d h w₁).scratch 0 (neg p)))
-    → (acts : List Float) → Resolving d h (whole d h w) 0 w₂ acts (record { path = 0; learnt = r.learnt; inc = r.inc }) (stopped p (so_far (whole d h w) acts r))
-stop_makes d h w r p rep f g w₁ e w₂ e₂ acts =
-    let x = whole d h w in
-    let n = none_yet d h w acts r rep f g in
-    let l = slice 1 r.learnt x.scratch.buffer in
-    let b : length x.scratch.buffer ≡ 2 * d.vars = buffer_length d h w rep in
-    record {
-      held = record {
-        rep = e₂.rep;
-        whole = e₂.whole ∙ rw e.whole (ap (λ y. with_scratch x (record { marks = set x.scratch.marks (var p) 0; buffer = y; stack = x.scratch.stack; notes = x.scratch.notes }))
-            (sym (laid_on x.scratch.buffer (neg p) l (omega (arith, n.learnt)) (ap (λ j. slice 1 j x.scratch.buffer) (sym n.learnt)))));
-      };
-      path = refl;
-      learnt = omega (arith, n.learnt);
-      activity = refl;
-    }
-  where
-    laid_on : (b : List ℕ) (q : ℕ) (l : List ℕ) → 1 + length l ≤ length b → slice 1 (1 + length l) b ≡ l → sets (set b 0 q) 1 l ≡ set b 0 q
-    laid_on b q l h e = sets_same (set b 0 q) 0 1 l (rw length-set h) (slice-set_before 1 (1 + length l) b 0 q (omega arith) ∙ e)
+    pub turn_asks : {m l : List ℕ} → m ≡ set x.marks (var lit) 0 → l ≡ clause_of c (reason_lit t.vars lit)
+        → Joinable t (record { marks = m; buffer = x.buffer; stack = x.stack; notes = x.notes }) a (path - 1) (take (length l - 1) (drop 1 l))
+    turn_asks {m} {l} e f =
+        rw (rest_of l, e, f)
+        (record {
+          sized = record { most = u.sized.most; buffer = u.sized.buffer; activity = u.sized.activity };
+          first = u.first;
+          stored = c.clauses;
+          left = older t.vars.trail i;
+          entries = u.entries.1;
+          inv = inv_less (length t.vars.values) c.clauses t.vars lit (older t.vars.trail i) u.entries (so_far x a path) u.inv u.seen u.top;
+          falsified = because.1.false_rest;
+        })
 
 -- ---- the walk
 
--- From place i of the trail on the walk ends as it does from the trail's end, where x, acts₀ and r₀ were.
-pub record Walking (d : Sizes) (h : Header) (x : Whole) (acts₀ : List Float) (r₀ : Joined) (i : ℕ) (w : List ℕ) (acts : List Float) (r : Joined) : Type 0 where
-  pub made : Resolving d h x 1 w acts r (so_far (whole d h w) acts r)
-  pub buffer : length x.scratch.buffer ≡ 2 * d.vars
-  pub sized : length acts ≡ d.vars
-  pub proper : Every (Proper d.vars) x.clauses.clauses
-  pub deep : 0 < decision_level x.assignment.vars
-  pub inside : i ≤ length x.assignment.vars.trail
-  pub entries : Entries d.vars x.clauses.clauses x.assignment.vars (older x.assignment.vars.trail i)
-  pub inv : Inv d.vars x.assignment.vars (older x.assignment.vars.trail i) (so_far (whole d h w) acts r)
-  pub pos : 0 < r.path
-  pub same : resolve (state_of h x).store x.assignment.vars (older x.assignment.vars.trail i) (so_far (whole d h w) acts r)
-      ≡ resolve (state_of h x).store x.assignment.vars (older x.assignment.vars.trail (length x.assignment.vars.trail)) (so_far x acts₀ r₀)
-  pub grown : r₀.learnt ≤ r.learnt
+-- From place i of the trail on the walk ends with the resolvent `last`, in the buffer that x opened.
+pub record Walking (t : Assignment) (c : Clauses) (x₀ : Scratch) (last : Resolvent) (i : ℕ) (x : Scratch) (a : Activity) (path : ℕ) : Type 0 where
+  pub behind : Behind (opened x₀) x
+  pub sized : Sized t x a
+  pub proper : Every (Proper (length t.vars.values)) c.clauses
+  pub deep : 0 < decision_level t.vars
+  pub inside : i ≤ length t.vars.trail
+  pub entries : Entries (length t.vars.values) c.clauses t.vars (older t.vars.trail i)
+  pub inv : Inv (length t.vars.values) t.vars (older t.vars.trail i) (so_far x a path)
+  pub pos : 0 < path
+  pub same : resolve (stored c) t.vars (older t.vars.trail i) (so_far x a path) ≡ last
 
-same_entries : (n : ℕ) {cs cs' : List (List ℕ)} {vs vs' : VarState} → cs' ≡ cs → vs' ≡ vs → (j : ℕ) → Entries n cs vs (get_or vs.trail j 0 ∷ older vs.trail j)
-    → Entries n cs' vs' (get_or vs'.trail j 0 ∷ older vs'.trail j)
-same_entries n {cs} {cs'} {vs} {vs'} p q j e =
-    subst (λ (c : List (List ℕ)). Entries n c vs' (get_or vs'.trail j 0 ∷ older vs'.trail j)) (sym p)
-    (subst (λ (v : VarState). Entries n cs v (get_or v.trail j 0 ∷ older v.trail j)) (sym q) e)
+module _ {t : Assignment} {c : Clauses} {x₀ : Scratch} {last : Resolvent} {i : ℕ} {x : Scratch} {a : Activity} {path : ℕ} (w : Walking t c x₀ last i x a path) where
+  abbrev k : Resolvent
+  k = so_far x a path
 
-module _ (d : Sizes) (h : Header) (x : Whole) (acts₀ : List Float) (r₀ : Joined) (i : ℕ) (w : List ℕ) (acts : List Float) (r : Joined) (v : Walking d h x acts₀ r₀ i w acts r) where
-  abbrev st : Store
-  st = (state_of h x).store
+  pub walk_first : 1 ≤ length x.buffer.items
+  walk_first = omega (arith, behind_items w.behind)
 
-  abbrev now_vs : VarState
-  now_vs = x.assignment.vars
-
-  abbrev now_k : Resolvent
-  now_k = so_far (whole d h w) acts r
-
-  walk_vars : (whole d h w).assignment ≡ x.assignment
-  walk_vars = ap (λ y. y.assignment) v.made.held.whole
-
-  walk_clauses : (whole d h w).clauses ≡ x.clauses
-  walk_clauses = ap (λ y. y.clauses) v.made.held.whole
-
-  pub walk_inside : i ≤ length (whole d h w).assignment.vars.trail
-  walk_inside = rw walk_vars v.inside
+  pub walk_marks : length x.marks ≡ length t.vars.values
+  walk_marks = w.inv.sized
 
   -- the place that the code finds
-  module _ (j : ℕ) (e : j ≡ last_seen (whole d h w).scratch.marks (whole d h w).assignment.vars.trail i) where
-    found : Found d.vars st now_vs now_k i j
-    found = rw (e, walk_vars) (find d.vars st now_vs now_k v.pos i v.entries v.inv)
+  module _ {j : ℕ} (e : j ≡ last_seen x.marks t.vars.trail i) where
+    found : Found (length t.vars.values) (stored c) t.vars k i j
+    found = rw e (find (length t.vars.values) (stored c) t.vars k w.pos i w.entries w.inv)
 
     pub walk_falls : j < i
     walk_falls = found.inside
 
-    found_top : level_lit now_vs (get_or now_vs.trail j 0) ≡ decision_level now_vs
-    found_top = top_seen d.vars x.clauses.clauses now_vs (get_or now_vs.trail j 0) (older now_vs.trail j) found.entries now_k found.inv v.pos found.seen
+    found_top : level_lit t.vars (get_or t.vars.trail j 0) ≡ decision_level t.vars
+    found_top = top_seen (length t.vars.values) c.clauses t.vars (get_or t.vars.trail j 0) (older t.vars.trail j) found.entries k found.inv w.pos found.seen
 
-    pub walk_first : 1 ≤ r.learnt
-    walk_first = omega (arith, v.made.learnt)
-
-    learnt_fits : (k : Resolvent) (t : List ℕ) → Entries d.vars x.clauses.clauses now_vs t → Inv d.vars now_vs t k → length k.learnt < d.vars
-    learnt_fits k t a b =
-        learnt_short d.vars x.clauses.clauses now_vs t a k b (get_or now_vs.trail j 0) found.entries.0.range found_top
-
-    pub walk_room : r.learnt ≤ d.vars
-    walk_room = omega (arith, v.made.learnt, learnt_fits now_k (older now_vs.trail i) v.entries v.inv)
-
-    pub walk_turns : Turning d.vars (whole d h w) acts r j
+    pub walk_turns : Turning t c x a path j
     walk_turns =
         record {
+          sized = w.sized;
           first = walk_first;
-          room = omega (arith, walk_room);
-          sized = v.sized;
-          proper = rw walk_clauses v.proper;
-          deep = rw walk_vars v.deep;
-          inside = rw walk_vars (omega (arith, walk_falls, v.inside));
-          entries = same_entries d.vars (ap (λ y. y.clauses) walk_clauses) (ap (λ y. y.vars) walk_vars) j found.entries;
-          inv = rw walk_vars found.inv;
-          seen = rw walk_vars found.seen;
-          top = rw walk_vars found_top;
+          proper = w.proper;
+          deep = w.deep;
+          inside = omega (arith, walk_falls, w.inside);
+          entries = found.entries;
+          inv = found.inv;
+          seen = found.seen;
+          top = found_top;
         }
 
+    abbrev p : ℕ
+    p = get_or t.vars.trail j 0
+
     -- its literal was resolved
-    module _ (more : 1 < r.path) (w' : List ℕ) (acts' : List Float) (r' : Joined) (sz : length acts' ≡ length acts)
-        (u : Resolving d h (whole d h w) 1 w' acts' r' (resolved (whole d h w) acts r j)) where
-      abbrev p : ℕ
-      p = get_or now_vs.trail j 0
+    module _ (more : 1 < path) {x' : Scratch} {a' : Activity} {path' : ℕ} (m : Resolves t c x x' a a' path path' j) where
+      kept : Inv (length t.vars.values) t.vars (older t.vars.trail j) (resolved t c p k) × (0 < (resolved t c p k).path)
+      kept = turn_joins (length t.vars.values) c.clauses t.vars p (older t.vars.trail j) found.entries k found.inv found.seen found_top more (stored c) refl w.deep
 
-      abbrev then_k : Resolvent
-      then_k = join now_vs (reason_rest st now_vs p) (less p now_k)
+      same_sized : length a'.activities ≡ length a.activities
+      same_sized = ap (λ (r : Resolvent). length r.activity.activities) m.holds ∙ join_sized t.vars (reason_rest (stored c) t.vars p) (less p k)
 
-      u_then : Resolving d h (whole d h w) 1 w' acts' r' then_k
-      u_then =
-          subst (λ k. Resolving d h (whole d h w) 1 w' acts' r' k)
-          (ap (λ y. join y.assignment.vars (drop 1 (clause_of y.clauses (reason_lit y.assignment.vars (get_or y.assignment.vars.trail j 0))))
-          (less (get_or y.assignment.vars.trail j 0) now_k)) v.made.held.whole) u
-
-      kept : Inv d.vars now_vs (older now_vs.trail j) then_k × (0 < then_k.path)
-      kept = turn_joins d.vars x.clauses.clauses now_vs p (older now_vs.trail j) found.entries now_k found.inv found.seen found_top more st refl v.deep
-
-      then_fits : 1 + length then_k.learnt ≤ 2 * d.vars
-      then_fits = omega (arith, learnt_fits then_k (older now_vs.trail j) found.entries.1 kept.0)
-
-      then_is : so_far (whole d h w') acts' r' ≡ then_k
-      then_is = is_so_far d h (whole d h w) w' acts' r' then_k (rw (buffer_length d h w v.made.held.rep) then_fits) u_then
-
-      longer : length now_k.learnt ≤ length then_k.learnt
-      longer = join_longer now_vs (reason_rest st now_vs p) (less p now_k)
-
-      pub walk_goes_on : Walking d h x acts₀ r₀ j w' acts' r'
+      pub walk_goes_on : Walking t c x₀ last j x' a' path'
       walk_goes_on =
           record {
-            made = rw then_is (and_then d h x w acts r now_k 1 v.made 1 w' acts' r' then_k (omega arith) (omega (arith, longer)) (omega (arith, then_fits, v.buffer)) u_then);
-            buffer = v.buffer;
-            sized = sz ∙ v.sized;
-            proper = v.proper;
-            deep = v.deep;
-            inside = omega (arith, walk_falls, v.inside);
+            behind = behind_then w.behind m.behind;
+            sized = sized_then w.sized m.behind same_sized;
+            proper = w.proper;
+            deep = w.deep;
+            inside = omega (arith, walk_falls, w.inside);
             entries = found.entries.1;
-            inv = rw then_is kept.0;
-            pos = omega (arith, u_then.path, kept.1);
-            same = rw then_is (sym (found.same ∙ resolve_on st now_vs p (older now_vs.trail j) now_k found.seen more) ∙ v.same);
-            grown = omega (arith, v.grown, v.made.learnt, u_then.learnt, longer);
+            inv = rw m.holds kept.0;
+            pos = omega (arith, ap (λ (r : Resolvent). r.path) m.holds, kept.1);
+            same = rw m.holds (sym (found.same ∙ resolve_on (stored c) t.vars p (older t.vars.trail j) k found.seen more) ∙ w.same);
           }
 
     -- it is the first UIP
-    module _ (last : r.path ≤ 1) (w' : List ℕ) (r' : Joined) (u : Resolving d h (whole d h w) 0 w' acts r' (stopped (get_or (whole d h w).assignment.vars.trail j 0) now_k)) where
-      u_first : Resolving d h (whole d h w) 0 w' acts r' (stopped (get_or now_vs.trail j 0) now_k)
-      u_first = subst (λ k. Resolving d h (whole d h w) 0 w' acts r' k) (ap (λ y. stopped (get_or y.assignment.vars.trail j 0) now_k) v.made.held.whole) u
+    module _ (few : path ≤ 1) where
+      is_last : stopped p k ≡ last
+      is_last = sym (found.same ∙ resolve_stop (stored c) t.vars p (older t.vars.trail j) k found.seen few) ∙ w.same
 
-      pub walk_ends : Resolving d h x 0 w' acts r' (resolve st now_vs (older now_vs.trail (length now_vs.trail)) (so_far x acts₀ r₀))
-      walk_ends =
-          let p = get_or now_vs.trail j 0 in
-          let e : stopped p now_k ≡ resolve st now_vs (older now_vs.trail (length now_vs.trail)) (so_far x acts₀ r₀) =
-          sym (found.same ∙ resolve_stop st now_vs p (older now_vs.trail j) now_k found.seen last) ∙ v.same in
-          subst (λ k. Resolving d h x 0 w' acts r' k) e
-          (and_then d h x w acts r now_k 1 v.made 0 w' acts r' (stopped p now_k) (omega arith) (omega arith) (omega (arith, v.made.learnt, walk_room, v.buffer)) u_first)
+      pub walk_ends : {m : List ℕ} {b : Row} → m ≡ set x.marks (var p) 0 → b ≡ put x.buffer 0 (neg p)
+          → Laid x₀ (record { marks = m; buffer = b; stack = x.stack; notes = x.notes }) a last
+      walk_ends e g =
+          record {
+            scratch =
+                rw (e, g)
+                (ap (λ (y : Scratch). record { marks = set x.marks (var p) 0; buffer = put y.buffer 0 (neg p); stack = y.stack; notes = y.notes }) w.behind.is
+                ∙ ap (λ (cs : List ℕ). record { marks = set x.marks (var p) 0; buffer = record { items = neg p ∷ w.behind.added; cells = cs }; stack = x₀.stack; notes = x₀.notes })
+                (sets_first x₀.buffer.cells undef_lit (neg p) w.behind.added)
+                ∙ ap (λ (l : List ℕ). laid x₀ (record { seen = set x.marks (var p) 0; path = 0; learnt = neg p ∷ l; activity = a }))
+                (sym (ap (λ (y : Scratch). drop 1 y.buffer.items) w.behind.is))
+                ∙ ap (laid x₀) is_last);
+            activity = ap (λ (r : Resolvent). r.activity) is_last;
+          }
 
--- the literals before place i are of the variables
-abbrev pub LitsTo : ℕ → List ℕ → ℕ → Type 0
-LitsTo n t i = (k : ℕ) → k < i → var (get_or t k 0) < n
-
-lits_to : (n : ℕ) (cs : List (List ℕ)) (vs : VarState) (t : List ℕ) (i : ℕ) → Entries n cs vs (older t i) → LitsTo n t i
+-- the literals of the trail are of the variables
+lits_to : (n : ℕ) (cs : List (List ℕ)) (vs : VarState) (t : List ℕ) (i : ℕ) → Entries n cs vs (older t i) → (k : ℕ) → k < i → var (get_or t k 0) < n
 unfolding older
 lits_to n cs vs t zero w k h = absurd (omega arith)
 lits_to n cs vs t (suc i) w k h = split (less? k i)
@@ -350,7 +262,5 @@ lits_to n cs vs t (suc i) w k h = split (less? k i)
     let e : k ≡ i = omega arith in
     rw e (var_range (get_or t i 0) n w.0.range))
 
-pub walk_lits : (d : Sizes) (h : Header) (x : Whole) (acts₀ : List Float) (r₀ : Joined) (i : ℕ) (w : List ℕ) (acts : List Float) (r : Joined) → Walking d h x acts₀ r₀ i w acts r
-    → LitsTo d.vars (whole d h w).assignment.vars.trail i
-walk_lits d h x acts₀ r₀ i w acts r v =
-    rw (ap (λ y. y.assignment) v.made.held.whole) (lits_to d.vars x.clauses.clauses x.assignment.vars x.assignment.vars.trail i v.entries)
+pub trail_lits : (n : ℕ) (cs : List (List ℕ)) (vs : VarState) → Entries n cs vs (reverse vs.trail) → LitsOf n vs.trail
+trail_lits n cs vs w i h = lits_to n cs vs vs.trail (length vs.trail) (rw (older-all vs.trail) w) i h

@@ -1,80 +1,58 @@
 -- The cells of a solve's answer, as they are written.
-use Rattle.std.specs.Prelude.{ℕ, ◌+◌, ◌≤◌, ◌≡◌, length, Float}
-use Rattle.std.proofs.Common.{arith, sym, ap, ◌∙◌}
-use Rattle.std.proofs.Math.Path.{subst}
-use mathlib.Core.List.{List, [], ◌∷◌}
+use Rattle.std.specs.Prelude.{ℕ, ◌+◌, ◌≤◌, ◌≡◌, refl, List, [], ◌∷◌, length, set}
+use Rattle.std.proofs.Common.{arith, sym, ap, ◌∙◌, subst}
 use Rattle.std.proofs.Math.Seq.{paste}
 use Rattle.model.specs.Limits.{solve_besides}
-use Rattle.model.specs.Search as model
 use Rattle.model.specs.Search.{cells, answer_of}
-use Rattle.state.specs.View.{whole, Rep}
-use Rattle.state.specs.AssignmentLaws.{vars_length}
-use Rattle.state.specs.MarksLaws.{final_counted}
-use Rattle.state.specs.declared.Config.{Config}
-use Rattle.state.specs.declared.Header.{Header}
-use Rattle.state.specs.declared.Sizes.{Sizes}
-use Rattle.search.specs.Held.{solver_at, status_of, searched_of}
-use Rattle.search.specs.declared.Status as Status
+use Rattle.state.specs.declared.State.{State}
+use Rattle.search.specs.declared.Solver.{Solver}
 use Rattle.search.specs.declared.Status.{Status}
 use Rattle.search.specs.declared.Searched.{Searched}
+use Rattle.search.specs.Held.{searched_of, Left, left_refuted}
+use Rattle.answer.specs.Answered.{Put}
 
--- m stands in out from `at` on, and e is the place behind it
-abbrev pub Placed : List ℕ → ℕ → List ℕ → ℕ → List ℕ → Type 0
-Placed out at out' e m = (out' ≡ paste out at m (length m)) × (e ≡ at + length m)
-
-pub cells-placed : (out : List ℕ) (at : ℕ) (out' : List ℕ) (e answer conflicts : ℕ) (body : List ℕ)
-    → (out' ≡ paste out at (cells answer conflicts body) (3 + length body)) × (e ≡ at + 3 + length body) → Placed out at out' e (cells answer conflicts body)
+pub cells-put : (out out' : List ℕ) (n answer conflicts : ℕ) (body : List ℕ)
+    → (out' ≡ paste out 0 (cells answer conflicts body) (3 + length body)) × (n ≡ 3 + length body) → Put (cells answer conflicts body) out out' n
 unfolding cells
-cells-placed out at out' e answer conflicts body k =
-    let n : 3 + length body ≡ length (cells answer conflicts body) = omega arith in
-    (k.0 ∙ ap (paste out at (cells answer conflicts body)) n, k.1 ∙ omega (arith, n))
-
--- ---- the room for them
-
-module _ {d : Sizes} {h : Header} {w : List ℕ} (r : Rep d h w) (at n : ℕ) (room : at + (d.vars + solve_besides) ≤ n) (body : List ℕ) where
-  -- a body as long as a model, or as a final clause
-  pub values_fit : body ≡ (whole d h w).assignment.vars.values → (at + 3 + length body ≤ n) × (length body ≤ 4294967295)
-  values_fit e =
-      let l : length body ≡ d.vars = ap length e ∙ (vars_length r).values in
-      (omega arith, omega (arith, r.room.vars))
-
-  pub final_fits : body ≡ (whole d h w).final.items → (at + 3 + length body ≤ n) × (length body ≤ 4294967295)
-  final_fits e =
-      let l : length body ≡ h.finals.count = ap length e ∙ final_counted r in
-      let m : h.finals.count ≤ d.vars + 1 = r.blocks.final.room.count in
-      (omega arith, omega (arith, r.room.vars))
+cells-put out out' n answer conflicts body k =
+    let m : 3 + length body ≡ length (cells answer conflicts body) = omega arith in
+    (k.0 ∙ ap (paste out 0 (cells answer conflicts body)) m, k.1 ∙ m)
 
 -- ---- the answer by its status
 
-module _ (g : Config) (r : Searched) (w : List ℕ) (out : List ℕ) (at : ℕ) (out' : List ℕ) (e : ℕ) where
-  -- whatever the activities are
-  abbrev pub Answers : Type 0
-  Answers = ((acts : List Float) → out' ≡ paste out at (answer_of (searched_of g r w acts)) (length (answer_of (searched_of g r w acts))))
-      × ((acts : List Float) → e ≡ at + length (answer_of (searched_of g r w acts)))
+module _ (x : Solver) (r : Searched) (out out' : List ℕ) (n : ℕ) where
+  by_status : (t : Status) → r.status ≡ t → Put (answer_of (searched_of x (record { status = t; conflicts = r.conflicts }))) out out' n → Put (answer_of (searched_of x r)) out out' n
+  by_status t e p = subst (λ (u : Status). Put (answer_of (searched_of x (record { status = u; conflicts = r.conflicts }))) out out' n) (sym e) p
 
-  abbrev with_status : List Float → Status → model.Searched
-  with_status acts s = record { solver = solver_at g r.solver w acts; conflicts = r.conflicts; status = status_of g r.solver.head w s }
-
-  by_status : (s : Status) → r.status ≡ s → ((acts : List Float) → Placed out at out' e (answer_of (with_status acts s))) → Answers
-  by_status s q f =
-      let p : (acts : List Float) → Placed out at out' e (answer_of (searched_of g r w acts)) =
-      λ acts. subst (λ (t : Status). Placed out at out' e (answer_of (with_status acts t))) (sym q) (f acts) in
-      (λ acts. (p acts).0, λ acts. (p acts).1)
-
-  pub answers_true : r.status ≡ Status.True → (body : List ℕ) → body ≡ (whole g.sizes r.solver.head w).assignment.vars.values
-      → (out' ≡ paste out at (cells 0 r.conflicts body) (3 + length body)) × (e ≡ at + 3 + length body) → Answers
+  pub answers_true : r.status ≡ Status.True → (body : List ℕ) → body ≡ x.state.trail.vars.values
+      → (out' ≡ paste out 0 (cells 0 r.conflicts body) (3 + length body)) × (n ≡ 3 + length body) → Put (answer_of (searched_of x r)) out out' n
   unfolding answer_of
-  answers_true q body b k = by_status Status.True q (λ acts. subst (λ (l : List ℕ). Placed out at out' e (cells 0 r.conflicts l)) b (cells-placed out at out' e 0 r.conflicts body k))
+  answers_true e body b k = by_status Status.True e (subst (λ (l : List ℕ). Put (cells 0 r.conflicts l) out out' n) b (cells-put out out' n 0 r.conflicts body k))
 
-  pub answers_false : r.status ≡ Status.False → (body : List ℕ) → body ≡ (whole g.sizes r.solver.head w).final.items
-      → (out' ≡ paste out at (cells 1 r.conflicts body) (3 + length body)) × (e ≡ at + 3 + length body) → Answers
+  pub answers_false : r.status ≡ Status.False → (body : List ℕ) → body ≡ x.state.finals.items
+      → (out' ≡ paste out 0 (cells 1 r.conflicts body) (3 + length body)) × (n ≡ 3 + length body) → Put (answer_of (searched_of x r)) out out' n
   unfolding answer_of
-  answers_false q body b k = by_status Status.False q (λ acts. subst (λ (l : List ℕ). Placed out at out' e (cells 1 r.conflicts l)) b (cells-placed out at out' e 1 r.conflicts body k))
+  answers_false e body b k = by_status Status.False e (subst (λ (l : List ℕ). Put (cells 1 r.conflicts l) out out' n) b (cells-put out out' n 1 r.conflicts body k))
 
-  pub answers-budget : r.status ≡ Status.Undef → (out' ≡ paste out at (cells 2 r.conflicts (1 ∷ [])) 4) × (e ≡ at + 4) → Answers
+  pub answers-budget : r.status ≡ Status.Undef → (out' ≡ paste out 0 (cells 2 r.conflicts (1 ∷ [])) 4) × (n ≡ 4) → Put (answer_of (searched_of x r)) out out' n
   unfolding answer_of
-  answers-budget q k = by_status Status.Undef q (λ acts. cells-placed out at out' e 2 r.conflicts (1 ∷ []) (k.0, omega (arith, k.1)))
+  answers-budget e k = by_status Status.Undef e (cells-put out out' n 2 r.conflicts (1 ∷ []) k)
 
-  pub answers_no_storage : r.status ≡ Status.NoStorage → (out' ≡ paste out at (cells 2 r.conflicts (2 ∷ [])) 4) × (e ≡ at + 4) → Answers
+  pub answers_no_storage : r.status ≡ Status.NoStorage → (out' ≡ paste out 0 (cells 2 r.conflicts (2 ∷ [])) 4) × (n ≡ 4) → Put (answer_of (searched_of x r)) out out' n
   unfolding answer_of
-  answers_no_storage q k = by_status Status.NoStorage q (λ acts. cells-placed out at out' e 2 r.conflicts (2 ∷ []) (k.0, omega (arith, k.1)))
+  answers_no_storage e k = by_status Status.NoStorage e (cells-put out out' n 2 r.conflicts (2 ∷ []) k)
+
+-- ---- the room for them
+
+module _ (t : Status) (s : State) (l : Left t s) {n : ℕ} (room : s.config.vars + solve_besides ≤ n) where
+  -- a body as long as a final clause
+  pub final_fits : {body : List ℕ} → length s.finals.items ≤ length s.finals.item_cells → body ≡ s.finals.items → (3 + length body ≤ n) × (length body ≤ 4294967295)
+  final_fits {body} f e =
+      let z = (left_refuted t l).sized in
+      (omega (arith, ap length e, f, z.members, room), omega (arith, ap length e, f, z.members, z.vars))
+
+-- ---- a clause's cell
+
+pub put_first : (out : List ℕ) (a : ℕ) → 1 ≤ length out → Put (a ∷ []) out (set out 0 a) 1
+put_first [] a h = absurd (omega (arith, h))
+put_first (x ∷ out) a h = (refl, refl)

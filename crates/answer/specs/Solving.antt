@@ -1,11 +1,11 @@
 -- A record from where the one before it ended to where it ends itself.
-use Rattle.std.specs.Prelude.{ℕ, ◌+◌, ◌*◌, ◌≤◌, ◌≡◌, refl, true, false, List, [], ◌∷◌, length, Float}
+use Rattle.std.specs.Prelude.{ℕ, ◌*◌, ◌≤◌, ◌≡◌, refl, true, false, List, [], ◌∷◌}
 use Rattle.std.proofs.Common.{arith, sym, ap, subst, ◌∙◌, true≢false}
 use Rattle.std.proofs.Math.Seq.{paste}
 use Rattle.model.specs.Lit.{undef_lit, l_false}
 use Rattle.model.specs.Script as Script
-use Rattle.model.specs.State as State
-use Rattle.model.specs.State.{State, decision_level, with_state}
+use Rattle.model.specs.State as ms
+use Rattle.model.specs.State.{decision_level, with_state}
 use Rattle.model.specs.Search as model
 use Rattle.model.specs.Search.{cells, answer_of, still_ok, Solved}
 use Rattle.model.specs.Trail.{cancel_until}
@@ -18,18 +18,17 @@ use Rattle.ends.specs.Answer.{Idle, closed, ready, found_by}
 use Rattle.ends.proofs.Answer.{solve_cases, solve_idle}
 use Rattle.ends.proofs.Out.{clause_idle}
 use Rattle.ends.specs.Bounds.{Limited}
-use Rattle.activity.specs.Activities.{activity}
-use Rattle.state.specs.Still.{Has, state_at, config_of}
 use Rattle.state.specs.declared.Config.{Config}
-use Rattle.state.specs.declared.Header.{Header}
-use Rattle.search.specs.Held.{solver_at, searched_of, Assumable, Running, Ends}
+use Rattle.state.specs.declared.State.{State}
+use Rattle.state.specs.Still.{Still, Has, state_at, config_of}
 use Rattle.search.specs.declared.Solver.{Solver}
 use Rattle.search.specs.declared.Searched.{Searched}
-use Rattle.answer.specs.Answered.{Between, Answered}
-use Rattle.answer.specs.Backing.{StillOk, left_ended}
-use Rattle.answer.specs.Cells.{Answers, cells-placed}
+use Rattle.search.specs.Held.{solver_at, searched_of, Assumable, Running, Kept, Ended}
+use Rattle.answer.specs.Answered.{Between, Put, Answered}
+use Rattle.answer.specs.Backing.{StillOk}
+use Rattle.answer.specs.Cells.{cells-put}
 
-idle_watching : {cfg : Script.Config} {s : State} → Idle cfg s → s.ok ≡ true → Watching cfg s
+idle_watching : {cfg : Script.Config} {s : ms.State} → Idle cfg s → s.ok ≡ true → Watching cfg s
 idle_watching (closed e) t = absurd (true≢false (sym t ∙ e))
 idle_watching (ready w z) t = w
 
@@ -38,7 +37,7 @@ abbrev solved_by : Script.Config → model.Searched → Solved
 solved_by cfg r =
     record { solver = with_state r.solver (cancel_until cfg.phase (still_ok r.status r.solver.state) 0); answer = answer_of r }
 
-module _ (cfg : Script.Config) (m : State.Solver) (ps : List ℕ) (budget : ℕ) where
+module _ (cfg : Script.Config) (m : ms.Solver) (ps : List ℕ) (budget : ℕ) where
   solve_open : m.state.ok ≡ true → model.solve cfg m ps budget ≡ solved_by cfg (found_by cfg m ps budget)
   solve_open t =
       solve_cases (λ (r : Solved). r ≡ solved_by cfg (found_by cfg m ps budget)) cfg m ps budget
@@ -51,104 +50,108 @@ module _ (cfg : Script.Config) (m : State.Solver) (ps : List ℕ) (budget : ℕ)
       (λ _. refl)
       (λ e. absurd (true≢false (sym e ∙ f)))
 
--- the search of a budget b is that of the solve's own
-pub within_budget : (g : Config) (m : State.Solver) (ps : List ℕ) (budget b : ℕ) (r : Searched) (w : List ℕ) (acts : List Float)
-    → Ends g (found_by (config_of g) m ps b) r w acts → b ≡ budget → Ends g (found_by (config_of g) m ps budget) r w acts
-within_budget g m ps budget b r w acts found e = subst (λ (n : ℕ). Ends g (found_by (config_of g) m ps n) r w acts) e found
+module _ (x : Solver) (between : Between x) (limited : Limited (config_of x.state.config)) where
+  -- under the configuration that x had
+  between_then : {x' : Solver} → Kept x x' → Still x'.state → decision_level x'.state.trail.vars ≡ 0 → Idle (config_of x.state.config) (state_at x'.state) → Between x'
+  between_then {x'} k s z i =
+      record {
+        still = s;
+        level = z;
+        idle = subst (λ (g : Config). Idle (config_of g) (state_at x'.state)) (sym k.config) i;
+        counted = k.counted ∙ between.counted ∙ sym (ap (λ (g : Config). g.vars) k.config);
+      }
 
-module _ (g : Config) (x : Solver) (w : List ℕ) (acts : List Float) (between : Between g x w acts) (limited : Limited (config_of g)) where
   -- ---- a solve
 
-  module _ (ps : List ℕ) (assumable : Assumable g ps) (budget : ℕ) where
+  module _ (ps : List ℕ) (assumable : Assumable x.state.config ps) (budget : ℕ) where
     abbrev cfg : Script.Config
-    cfg = config_of g
+    cfg = config_of x.state.config
 
     abbrev whole_solve : Solved
-    whole_solve = model.solve cfg (solver_at g x w acts) ps budget
+    whole_solve = model.solve cfg (solver_at x) ps budget
 
     -- what the search asks
-    pub search_asks : x.head.ok ≡ true → Running g ps x w acts × ((decision_level (state_at g x.head w).vars ≡ 0) × Limited (config_of g))
-    search_asks t = (
-      record {
-        still = between.still;
-        ongoing = record { searching = searching_start between.still.formed ps between.level; watching = idle_watching between.idle t };
-        counted = between.counted;
-        assumable = assumable;
-      },
-      (between.level, limited),
-    )
+    pub search_asks : x.state.ok ≡ true → Running ps x
+    search_asks t =
+        record {
+          still = between.still;
+          ongoing = record { searching = searching_start between.still.formed ps between.level; watching = idle_watching between.idle t };
+          counted = between.counted;
+          assumable = assumable;
+        }
 
-    module _ (ok : x.head.ok ≡ true) (r : Searched) (w₁ : List ℕ) (acts₁ : List Float) (counted : length acts₁ ≡ length acts)
-        (found : Ends g (found_by (config_of g) (solver_at g x w acts) ps budget) r w₁ acts₁) (out : List ℕ) (at : ℕ) (out₁ : List ℕ) (e : ℕ)
-        (answers : Answers g r w₁ out at out₁ e) (k : Header) (closing : StillOk g r.solver.head w₁ r.status k) (z : Header) (w₂ : List ℕ)
-        (has : Has g z w₂ (cancel_until g.phase (state_at g k w₁) 0)) where
-      solve_is : solved_by cfg (searched_of g r w₁ acts₁) ≡ whole_solve
-      solve_is = ap (solved_by cfg) found.is ∙ sym (solve_open cfg (solver_at g x w acts) ps budget ok)
+    module _ (ok : x.state.ok ≡ true) {r : Searched} {x₁ : Solver} (found : Ended (found_by (config_of x.state.config) (solver_at x) ps budget) x x₁ r)
+        {s₂ : State} (closing : StillOk r.status x₁.state s₂) {s₄ : State} (has : Has s₄ (cancel_until s₂.config.phase (state_at s₂) 0)) (config : s₄.config ≡ s₂.config) where
+      solve_is : solved_by (config_of x.state.config) (searched_of x₁ r) ≡ model.solve (config_of x.state.config) (solver_at x) ps budget
+      solve_is = ap (solved_by cfg) found.is ∙ sym (solve_open cfg (solver_at x) ps budget ok)
 
-      answer_is : answer_of (searched_of g r w₁ acts₁) ≡ whole_solve.answer
+      answer_is : answer_of (searched_of x₁ r) ≡ (model.solve (config_of x.state.config) (solver_at x) ps budget).answer
       answer_is = ap (λ (t : Solved). t.answer) solve_is
 
-      left_is : solver_at g (record { head = z; inc = r.solver.inc }) w₂ acts₁ ≡ whole_solve.solver
+      config_is : s₂.config ≡ x.state.config
+      config_is = closing.config ∙ found.kept.config
+
+      state_is : state_at s₄ ≡ cancel_until x.state.config.phase (still_ok (searched_of x₁ r).status (state_at x₁.state)) 0
+      state_is =
+          has.state
+          ∙ ap (λ (g : Config). cancel_until g.phase (state_at s₂) 0) config_is
+          ∙ ap (λ (s : ms.State). cancel_until x.state.config.phase s 0) closing.state
+
+      left_is : solver_at (record { state = s₄; activity = x₁.activity }) ≡ (model.solve (config_of x.state.config) (solver_at x) ps budget).solver
       left_is =
-          ap (λ (s : State). record { state = s; activity = activity acts₁ r.solver.inc })
-          (has.state ∙ ap (λ (s : State). cancel_until g.phase s 0) closing.0)
+          ap (λ (s : ms.State). record { state = s; activity = x₁.activity }) state_is
           ∙ ap (λ (t : Solved). t.solver) solve_is
 
-      level_is : decision_level (state_at g z w₂).vars ≡ 0
+      level_is : decision_level s₄.trail.vars ≡ 0
       level_is =
-          let b = cancel_level g.phase (state_at g k w₁) 0 (left_ended g k w₁ r.status closing.1).formed.vars in
-          subst (λ (s : State). decision_level s.vars ≡ 0) (sym has.state) (omega (arith, b))
+          let b = cancel_level s₂.config.phase (state_at s₂) 0 closing.left.formed.vars in
+          subst (λ (s : ms.State). decision_level s.vars ≡ 0) (sym has.state) (omega (arith, b))
 
-      pub solved : Answered g (model.solve (config_of g) (solver_at g x w acts) ps budget).solver (model.solve (config_of g) (solver_at g x w acts) ps budget).answer out at
-          (record { solver = record { head = z; inc = r.solver.inc }; at = e }) w₂ acts₁ out₁
-      solved =
+      kept_is : Kept x (record { state = s₄; activity = x₁.activity })
+      kept_is = record { config = config ∙ config_is; counted = found.kept.counted }
+
+      pub solved : {out out' : List ℕ} {n : ℕ} → Put (answer_of (searched_of x₁ r)) out out' n
+          → Answered (model.solve (config_of x.state.config) (solver_at x) ps budget).solver (model.solve (config_of x.state.config) (solver_at x) ps budget).answer
+          x (record { state = s₄; activity = x₁.activity }) out out' n
+      solved {out} {out'} {n} put =
           record {
             solver = left_is;
-            between = record {
-              still = has.still;
-              level = level_is;
-              idle =
-                  subst (λ (t : State.Solver). Idle (config_of g) t.state) (sym left_is)
-                  (solve_idle limited (solver_at g x w acts) ps assumable.range budget between.idle);
-              counted = counted ∙ between.counted;
-            };
-            out = subst (λ (l : List ℕ). out₁ ≡ paste out at l (length l)) answer_is (answers.0 acts₁);
-            at = subst (λ (l : List ℕ). e ≡ at + length l) answer_is (answers.1 acts₁);
+            between =
+                between_then kept_is has.still level_is
+                (subst (λ (t : ms.Solver). Idle cfg t.state) (sym left_is) (solve_idle limited (solver_at x) ps assumable.range budget between.idle));
+            kept = kept_is;
+            put = subst (λ (l : List ℕ). Put l out out' n) answer_is put;
           }
 
     -- the clauses are known to have no model
-    pub solved-closed : x.head.ok ≡ false → (out : List ℕ) (at : ℕ) (out₁ : List ℕ) (e : ℕ)
-        → (out₁ ≡ paste out at (cells 1 0 []) 3) × (e ≡ at + 3 + 0)
-        → Answered g (model.solve (config_of g) (solver_at g x w acts) ps budget).solver (model.solve (config_of g) (solver_at g x w acts) ps budget).answer out at
-        (record { solver = x; at = e }) w acts out₁
-    solved-closed f out at out₁ e k =
-        let p = cells-placed out at out₁ e 1 0 [] k in
-        subst (λ (t : Solved). Answered g t.solver t.answer out at (record { solver = x; at = e }) w acts out₁)
-        (sym (solve-closed cfg (solver_at g x w acts) ps budget f))
-        (record { solver = refl; between = between; out = p.0; at = p.1 })
+    pub solved-closed : x.state.ok ≡ false → {out out' : List ℕ} {n : ℕ} → (out' ≡ paste out 0 (cells 1 0 []) 3) × (n ≡ 3)
+        → Answered (model.solve (config_of x.state.config) (solver_at x) ps budget).solver (model.solve (config_of x.state.config) (solver_at x) ps budget).answer x x out out' n
+    solved-closed f {out} {out'} {n} k =
+        subst (λ (t : Solved). Answered t.solver t.answer x x out out' n) (sym (solve-closed cfg (solver_at x) ps budget f))
+        (record { solver = refl; between = between; kept = record { config = refl; counted = refl }; put = cells-put out out' n 1 0 [] k })
 
   -- ---- a clause
 
-  module _ (part : List ℕ) (assumable : Assumable g part) (k : Header) (w₁ : List ℕ)
-      (has : Has g k w₁ (add_clause (config_of g) (state_at g x.head w) part).state) where
-    clause_level : decision_level (state_at g k w₁).vars ≡ 0
+  module _ (part : List ℕ) (assumable : Assumable x.state.config part) {s₁ : State}
+      (has : Has s₁ (add_clause (config_of x.state.config) (state_at x.state) part).state) (config : s₁.config ≡ x.state.config) where
+    clause_level : decision_level s₁.trail.vars ≡ 0
     clause_level =
-        let small : 2 * (config_of g).variables ≤ undef_lit = omega (arith, limited.variables) in
-        subst (λ (s : State). decision_level s.vars ≡ 0) (sym has.state)
-        (intaken_level (add_clause (config_of g) (state_at g x.head w) part) (intaken (config_of g) (state_at g x.head w) part small assumable.range) ∙ between.level)
+        let small : 2 * (config_of x.state.config).variables ≤ undef_lit = omega (arith, limited.variables) in
+        subst (λ (s : ms.State). decision_level s.vars ≡ 0) (sym has.state)
+        (intaken_level (add_clause (config_of x.state.config) (state_at x.state) part) (intaken (config_of x.state.config) (state_at x.state) part small assumable.range) ∙ between.level)
 
-    pub clause-answered : (a : ℕ) → a ≡ (add_clause (config_of g) (state_at g x.head w) part).answer → (out : List ℕ) (at : ℕ) (out₁ : List ℕ) → out₁ ≡ paste out at (a ∷ []) 1
-        → Answered g (with_state (solver_at g x w acts) (add_clause (config_of g) (state_at g x.head w) part).state) ((add_clause (config_of g) (state_at g x.head w) part).answer ∷ []) out at
-        (record { solver = record { head = k; inc = x.inc }; at = at + 1 }) w₁ acts out₁
-    clause-answered a e out at out₁ p =
+    clause_kept : Kept x (record { state = s₁; activity = x.activity })
+    clause_kept = record { config = config; counted = refl }
+
+    pub clause-answered : {a : ℕ} → a ≡ (add_clause (config_of x.state.config) (state_at x.state) part).answer → {out out' : List ℕ} {n : ℕ} → Put (a ∷ []) out out' n
+        → Answered (with_state (solver_at x) (add_clause (config_of x.state.config) (state_at x.state) part).state) ((add_clause (config_of x.state.config) (state_at x.state) part).answer ∷ [])
+        x (record { state = s₁; activity = x.activity }) out out' n
+    clause-answered {a} e {out} {out'} {n} p =
         record {
-          solver = ap (λ (s : State). record { state = s; activity = activity acts x.inc }) has.state;
-          between = record {
-            still = has.still;
-            level = clause_level;
-            idle = subst (Idle (config_of g)) (sym has.state) (clause_idle limited (state_at g x.head w) part assumable.range between.idle);
-            counted = between.counted;
-          };
-          out = subst (λ (b : ℕ). out₁ ≡ paste out at (b ∷ []) 1) e p;
-          at = refl;
+          solver = ap (λ (s : ms.State). record { state = s; activity = x.activity }) has.state;
+          between =
+              between_then clause_kept has.still clause_level
+              (subst (Idle (config_of x.state.config)) (sym has.state) (clause_idle limited (state_at x.state) part assumable.range between.idle));
+          kept = clause_kept;
+          put = subst (λ (b : ℕ). Put (b ∷ []) out out' n) e p;
         }

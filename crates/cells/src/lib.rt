@@ -1,4 +1,4 @@
-// Answers written into out: a clause's cell, and a solve's cells.
+// Cells written into out: any cells, and a solve's answer.
 #![tactic(auto)]
 
 ghost use Rattle.std.specs.Prelude.{◌≡◌, [], ◌∷◌, ◌+◌, ◌≤◌, length};
@@ -30,37 +30,23 @@ pub fn put(out: &mut [u32], at: usize, from: &[u32])
     out[at..at + from.len()].copy_from_slice(from);
 }
 
-// One cell.
-pub fn put_one(out: &mut [u32], at: usize, x: u32)
-    requires { at + 1 ≤ length out.old }
-    ensures { out.new ≡ paste out.old at (x ∷ []) 1 }
-{
-    out[at] = x;
-}
-
-// A solve's verdict, its conflicts, and the cells behind the count; returns the place behind them.
-pub fn put_solve(
-    out: &mut [u32],
-    at: usize,
-    verdict: Verdict,
-    conflicts: u32,
-    body: &[u32],
-) -> usize
-    requires body_in_bounds { at + 3 + length body.now ≤ length out.old }
+// A solve's verdict, its conflicts, and the cells behind the count, from the start of out on; the result is how many cells.
+pub fn put_solve(out: &mut [u32], verdict: Verdict, conflicts: u32, body: &[u32]) -> usize
+    requires body_in_bounds { 3 + length body.now ≤ length out.old }
     requires body_len_bound { length body.now ≤ 4294967295 }
-    ensures { (out.new ≡ paste out.old at (cells (verdict_cell verdict) conflicts body.now) (3 + length body.now)) × (result ≡ at + 3 + length body.now) }
+    ensures { (out.new ≡ paste out.old 0 (cells (verdict_cell verdict) conflicts body.now) (3 + length body.now)) × (result ≡ 3 + length body.now) }
 {
-    out[at] = verdict as u32;
-    out[at + 1] = conflicts;
-    out[at + 2] = body.len() as u32;
-    put(out, at + 3, body);
-    at + 3 + body.len()
+    out[0] = verdict as u32;
+    out[1] = conflicts;
+    out[2] = body.len() as u32;
+    put(out, 3, body);
+    3 + body.len()
 }
 
 // A stopped solve: its cause.
-pub fn put_stopped(out: &mut [u32], at: usize, conflicts: u32, cause: Cause) -> usize
-    requires { at + 4 ≤ length out.old }
-    ensures { (out.new ≡ paste out.old at (cells (l_undef) conflicts (cause_cell cause ∷ [])) 4) × (result ≡ at + 4) }
+pub fn put_stopped(out: &mut [u32], conflicts: u32, cause: Cause) -> usize
+    requires { 4 ≤ length out.old }
+    ensures { (out.new ≡ paste out.old 0 (cells l_undef conflicts (cause_cell cause ∷ [])) 4) × (result ≡ 4) }
 {
-    put_solve(out, at, Verdict::Undef, conflicts, &[cause as u32])
+    put_solve(out, Verdict::Undef, conflicts, &[cause as u32])
 }

@@ -1,1 +1,2 @@
 -- The definitions stand in crate model.
+pub mod Cells

@@ -3,30 +3,62 @@
 
 ghost use Rattle.std.specs.Prelude.{◌≡◌, ◌+◌, ◌*◌, ◌<◌};
 ghost use Rattle.model.specs.Lit.{var, sign, neg, undef_lit, value_for};
+ghost use Rattle.clause.specs.Cells.{value_at, cell_of, reason_at, reason_cell};
 
 // A variable, from 0.
-#[derive(Clone, Copy)]
+#[derive(Clone, Copy, Debug, PartialEq, Eq)]
 pub struct Var(pub u32);
 
 // Variable v positive is 2v, negated 2v + 1.
-#[derive(Clone, Copy)]
+#[derive(Clone, Copy, Debug, PartialEq, Eq, PartialOrd, Ord)]
 pub struct Lit(pub u32);
 
-// The values of a variable and of a literal.
-pub const TRUE: u32 = 0;
+// The value of a variable and of a literal. A cell holds its place in this list.
+#[derive(Clone, Copy, Debug, PartialEq, Eq)]
+pub enum Value {
+    True,
+    False,
+    Undef,
+}
 
-pub const FALSE: u32 = 1;
+// The cell of a variable without a value.
+pub const UNDEF: u32 = Value::Undef as u32;
 
-pub const UNDEF: u32 = 2;
-
-// The reason of a decision and of a unit, the Rust's CRef::UNDEF.
+// The cell of the reason of a decision and of a unit, the Rust's CRef::UNDEF.
 pub const NO_REASON: u32 = 4294967295;
 
-// A cell as a place.
-pub fn wide(x: u32) -> usize
-    ensures { result ≡ x }
+impl From<u32> for Value {
+    ghost from_gives = { λ cell v. v ≡ value_at cell };
+
+    fn from(cell: u32) -> Value {
+        match cell {
+            0 => Value::True,
+            1 => Value::False,
+            _ => Value::Undef,
+        }
+    }
+}
+
+// The clause that a reason's cell names.
+pub fn reason_at(cell: u32) -> Option<usize>
+    ensures { result ≡ reason_at cell }
 {
-    x as usize
+    if cell == NO_REASON {
+        None
+    } else {
+        Some(cell as usize)
+    }
+}
+
+// The cell of a reason.
+pub fn reason_cell(reason: Option<usize>) -> u32
+    requires { reason_cell reason < 4294967296 }
+    ensures { result ≡ reason_cell reason }
+{
+    match reason {
+        Some(c) => c as u32,
+        None => NO_REASON,
+    }
 }
 
 impl Lit {
@@ -67,13 +99,14 @@ impl Lit {
     }
 
     // The literal's value where its variable has the value `known`.
-    pub fn value(self, known: u32) -> u32
-        requires { known < 3 }
-        ensures { result ≡ value_for known self.0 }
+    pub fn value(self, known: Value) -> Value
+        ensures { cell_of result ≡ value_for (cell_of known) self.0 }
     {
-        if known == UNDEF {
-            return UNDEF;
+        match (known, self.sign()) {
+            (Value::Undef, _) => Value::Undef,
+            (Value::True, 0) => Value::True,
+            (Value::False, 1) => Value::True,
+            _ => Value::False,
         }
-        (known + self.0 % 2) % 2
     }
 }

@@ -1,21 +1,20 @@
--- Rule 6 over the slice: the levels of the assumptions, and the pick behind them.
-use Rattle.std.specs.Prelude.{ℕ, suc, ◌+◌, ◌*◌, ◌≤◌, ◌<◌, ◌≡◌, ◌≢◌, Bool, true, false, List, [], ◌∷◌, get_or, drop, replicate, Float}
-use native.Mathlib.Omega.{arith}
-use Rattle.std.proofs.Common.{add-one, sym, subst, ◌∙◌, drop_of_length-le, drop-cons, eq-eqb, ne_eqb}
-use Rattle.std.proofs.Math.Path.{refl, ap}
-use Rattle.std.specs.Prelude.{Option, None as none, Some as some}
-use Rattle.std.proofs.Math.ListN.{length}
-use Rattle.clause.specs.declared.Lit.{Lit}
-use Rattle.model.specs.Lit.{var, neg, no_reason, l_true, l_false, value_lit, is_true, is_false}
-use Rattle.model.specs.State.{State, decision_level, with_vars}
-use Rattle.model.specs.Trail.{unchecked_enqueue, new_decision_level}
+-- Rule 6: the levels of the assumptions, and the pick behind them.
+use Rattle.std.specs.Prelude.{ℕ, suc, ◌+◌, ◌*◌, ◌≤◌, ◌<◌, ◌≡◌, refl, ◌≢◌, true, false, List, [], ◌∷◌, length, get_or, drop, replicate, Float, Option}
+use Rattle.std.specs.Prelude.{None as none, Some as some}
+use Rattle.std.proofs.Common.{arith, add-one, sym, ap, ◌∙◌, drop-cons, eq-eqb, ne_eqb}
+use Rattle.std.proofs.Math.Seq.{length-sets}
+use Rattle.std.proofs.lemmas.List.{length-replicate}
+use Rattle.model.specs.Lit.{var, neg, no_reason, l_true, l_false, value_lit, is_false}
+use Rattle.model.specs.State as model
+use Rattle.model.specs.State.{decision_level, with_vars}
+use Rattle.model.specs.Trail.{new_decision_level}
 use Rattle.model.specs.Final.{analyze_final}
-use Rattle.model.specs.Decide as model
+use Rattle.model.specs.Decide as definition
 use Rattle.model.specs.Decide.{pick, pick_branch_lit, open_level, assume, decide}
 use Rattle.lawbase.specs.Basics.{◌∈◌, Every, var_range}
 use Rattle.lawbase.specs.WellFormed.{WellFormed}
 use Rattle.assign.proofs.Lists.{get_or_in}
-use Rattle.assign.proofs.Reading.{on_is_false, unset_of, trail_room}
+use Rattle.assign.proofs.Reading.{on_is_false, trail_room}
 use Rattle.assign.proofs.Level.{level_more}
 use Rattle.assign.specs.Levels.{Levels}
 use Rattle.assign.proofs.Levels.{levels_empty, levels_trail}
@@ -23,157 +22,183 @@ use Rattle.assign.specs.Pick.{Free}
 use Rattle.assign.proofs.Pick.{branch_some}
 use Rattle.assign.proofs.Decide.{opened-empty, open_formed}
 use Rattle.activity.specs.Pick.{pick-unset}
+use Rattle.clause.specs.declared.Lit.{Lit}
 use Rattle.trail.specs.View.{Assignment, enqueued, next_level}
-use Rattle.trail.specs.declared.TrailHead.{TrailHead}
 use Rattle.watch.specs.View.{Under}
-use Rattle.litset.specs.View.{emptied}
-use Rattle.state.specs.declared.Sizes.{Sizes}
-use Rattle.state.specs.declared.Header.{Header}
+use Rattle.litset.specs.View.{Members, emptied, with_items}
 use Rattle.state.specs.declared.Config.{Config}
-use Rattle.state.specs.View.{Whole, whole, Rep, Holds, state_of, with_assignment, with_final}
-use Rattle.state.specs.Laws.{with_trail, with_final_head}
-use Rattle.state.specs.MarksLaws.{members}
-use Rattle.state.specs.AssignmentLaws.{assigned_counted, levels_counted, after_enqueue, after_level}
-use Rattle.state.specs.Still.{config_of, state_at, Idle, Still, Has}
-use Rattle.decide.specs.declared.Branch.{Branch}
-use Rattle.decide.specs.declared.Branch.TheVariants.{On, Nothing}
+use Rattle.state.specs.declared.State.{State}
+use Rattle.state.specs.Still.{config_of, state_at, Sized, Still, Has, Beside}
 use Rattle.decide.specs.declared.Decision.{Decision}
 use Rattle.decide.specs.declared.Decision.TheVariants.{Decided, Complete, Failed}
-use Rattle.decide.specs.Final.{Explained, explained_state}
+use Rattle.decide.specs.Blaming.{flagged-length}
+use Rattle.decide.specs.Final.{Explained, traced}
 
 -- ---- the answers
 
-abbrev pub branch_of : Branch → Option ℕ
-branch_of (On p) = some p.0
-branch_of Nothing = none
+abbrev pub branch_of : Option Lit → Option ℕ
+branch_of (some p) = some p.0
+branch_of none = none
 
--- the definition's decision that the slice holds
-abbrev pub decision_of : Config → Decision → List ℕ → model.Decision
-decision_of g (Decided h) w = model.decided (state_at g h w)
-decision_of g (Complete h) w = model.complete (state_at g h w)
-decision_of g (Failed h) w = model.failed (state_at g h w) (whole g.sizes h w).final.items
+-- the definition's decision, with the state s after it
+abbrev pub decision_of : Decision → State → definition.Decision
+decision_of Decided s = definition.decided (state_at s)
+decision_of Complete s = definition.complete (state_at s)
+decision_of Failed s = definition.failed (state_at s) s.finals.items
 
 -- as between two steps, but for a final clause
-pub record Ended (g : Config) (h : Header) (w : List ℕ) : Type 0 where
-  pub rep : Rep g.sizes h w
-  pub marks : (whole g.sizes h w).scratch.marks ≡ replicate g.sizes.vars 0
-  pub pushed : (whole g.sizes h w).clauses.pushed ≡ []
-  pub nodes : Under (2 * length (whole g.sizes h w).clauses.clauses) (whole g.sizes h w).watches.lists
-  pub formed : WellFormed (config_of g) (state_at g h w)
+pub record Ended (s : State) : Type 0 where
+  pub sized : Sized s
+  pub marks : s.scratch.marks ≡ replicate s.config.vars 0
+  pub pushed : s.clauses.pushed ≡ []
+  pub nodes : Under (2 * length s.clauses.clauses) s.watches.lists
+  pub formed : WellFormed (config_of s.config) (state_at s)
 
-abbrev pub Settled : Config → Decision → List ℕ → Type 0
-Settled g (Decided h) w = Still g h w
-Settled g (Complete h) w = Still g h w
-Settled g (Failed h) w = Ended g h w
+-- nothing is half done, but for the final clause after a failure
+abbrev pub Settled : Decision → State → State → Type 0
+Settled Decided s s' = Still s' × (s'.finals ≡ s.finals)
+Settled Complete s s' = Still s' × (s'.finals ≡ s.finals)
+Settled Failed s s' = Ended s' × (s'.finals ≡ with_items s.finals s'.finals.items)
 
--- the slice holds the definition's decision m
-pub record Decides (g : Config) (m : model.Decision) (r : Decision) (w : List ℕ) : Type 0 where
-  pub is : decision_of g r w ≡ m
-  pub settled : Settled g r w
+-- what a decision leaves as it was
+pub record Same (s s' : State) : Type 0 where
+  pub config : s'.config ≡ s.config
+  pub scratch : s'.scratch ≡ s.scratch
+  pub watches : s'.watches ≡ s.watches
+  pub clauses : s'.clauses ≡ s.clauses
+
+-- the code's decision r, with s' after it, is the definition's m
+pub record Decides (m : definition.Decision) (s s' : State) (r : Decision) : Type 0 where
+  pub is : decision_of r s' ≡ m
+  pub settled : Settled r s s'
+  pub same : Same s s'
+
+-- as large, with another trail and another final clause
+sized_with : (s : State) → Sized s → (t : Assignment) → length t.vars.values ≡ s.config.vars
+    → (f : Members) → length f.flag_cells ≡ length s.finals.flag_cells → length f.item_cells ≡ length s.finals.item_cells
+    → Sized (record { config = s.config; trail = t; scratch = s.scratch; watches = s.watches; clauses = s.clauses; finals = f; qhead = s.qhead; ok = s.ok })
+sized_with s z t values f flags members =
+    record {
+      some = z.some;
+      vars = z.vars;
+      room = z.room;
+      lit_room = z.lit_room;
+      values = values;
+      marks = z.marks;
+      buffer = z.buffer;
+      stack = z.stack;
+      notes = z.notes;
+      lists = z.lists;
+      blockers = z.blockers;
+      chains = z.chains;
+      clauses = z.clauses;
+      literals = z.literals;
+      flags = flags ∙ z.flags;
+      members = members ∙ z.members;
+    }
 
 -- when the final clause is cleared, nothing is half done
-pub ended_cleared : {g : Config} {h : Header} {w : List ℕ} (r : Header) (w' : List ℕ) → Ended g h w → Holds g.sizes r w' (with_final (whole g.sizes h w) (emptied (2 * g.sizes.vars) (whole g.sizes h w).final))
-    → r ≡ with_final_head h (members 0) → Has g r w' (state_at g h w)
-ended_cleared {g} {h} {w} r w' e k q =
-    let s : state_at g r w' ≡ state_at g h w = ap (state_of r) k.whole ∙ ap (λ (y : Header). state_of y (with_final (whole g.sizes h w) (emptied (2 * g.sizes.vars) (whole g.sizes h w).final))) q in
+pub ended_cleared : {s : State} → Ended s → Has (traced s s.scratch.marks (emptied (length s.finals.flag_cells) s.finals)) (state_at s)
+ended_cleared {s} e =
     record {
-      still = record {
-        rep = k.rep;
-        idle = rw k.whole (record { marks = e.marks; final = refl; pushed = e.pushed; nodes = e.nodes });
-        formed = rw s e.formed;
-      };
-      state = s;
+      still =
+          record {
+            sized = sized_with s e.sized s.trail e.sized.values (emptied (length s.finals.flag_cells) s.finals) (length-replicate (length s.finals.flag_cells) 0) refl;
+            idle = record { marks = e.marks; final = refl; pushed = e.pushed; nodes = e.nodes };
+            formed = e.formed;
+          };
+      state = refl;
     }
 
 -- ---- the assignment changed
 
-module _ (g : Config) (h : Header) (w : List ℕ) (s : Still g h w) where
-  still_assigned : (a : Assignment) (r : Header) (w' : List ℕ) → Holds g.sizes r w' (with_assignment (whole g.sizes h w) a) → WellFormed (config_of g) (state_at g r w')
-      → Still g r w'
-  still_assigned a r w' k f =
+-- s with another trail
+abbrev pub moved : State → Assignment → State
+moved s t =
+    record { config = s.config; trail = t; scratch = s.scratch; watches = s.watches; clauses = s.clauses; finals = s.finals; qhead = s.qhead; ok = s.ok }
+
+module _ {s : State} (k : Still s) where
+  still_moved : (t : Assignment) → WellFormed (config_of s.config) (state_at (moved s t)) → Still (moved s t)
+  still_moved t f =
       record {
-        rep = k.rep;
-        idle = rw k.whole (record { marks = s.idle.marks; final = s.idle.final; pushed = s.idle.pushed; nodes = s.idle.nodes });
+        sized = sized_with s k.sized t f.vars.values s.finals refl refl;
+        idle = record { marks = k.idle.marks; final = k.idle.final; pushed = k.idle.pushed; nodes = k.idle.nodes };
         formed = f;
       }
 
   -- an empty level
-  pub level_has : (t : TrailHead) (r : Header) (w' : List ℕ) → Holds g.sizes r w' (with_assignment (whole g.sizes h w) (next_level (whole g.sizes h w).assignment))
-      → r ≡ with_trail h t → Has g r w' (with_vars (state_at g h w) (new_decision_level (state_at g h w).vars))
-  level_has t r w' k e =
-      let q : state_at g r w' ≡ with_vars (state_at g h w) (new_decision_level (state_at g h w).vars) = after_level h (whole g.sizes h w) k e in
-      record { still = still_assigned (next_level (whole g.sizes h w).assignment) r w' k (rw q (opened-empty s.formed)); state = q }
+  pub level_has : Has (moved s (next_level s.trail)) (with_vars (state_at s) (new_decision_level s.trail.vars))
+  level_has = record { still = still_moved (next_level s.trail) (opened-empty k.formed); state = refl }
 
--- a level with its decision
-module _ (g : Config) (h : Header) (w : List ℕ) (s : Still g h w) (p : ℕ) (f : Free g.sizes.vars (state_at g h w) p)
-    (r : Header) (w₁ : List ℕ) (k : Has g r w₁ (with_vars (state_at g h w) (new_decision_level (state_at g h w).vars))) where
-  pub open_asks : Rep g.sizes r w₁ × ((var p < g.sizes.vars) × (r.trail.assigned < g.sizes.vars))
-  unfolding new_decision_level
-  open_asks = (
-    k.still.rep,
-    (
-      var_range p g.sizes.vars f.range,
-      omega (
-        arith,
-        trail_room s.formed.vars p f.range f.unset,
-        assigned_counted k.still.rep,
-        ap (λ (y : State). length y.vars.trail) k.state,
-      ),
-    ),
-  )
+  -- a level with its decision
+  module _ {p : ℕ} (f : Free s.config.vars (state_at s) p) where
+    pub open_var : var p < length (next_level s.trail).vars.values
+    unfolding new_decision_level
+    open_var = omega (arith, var_range p s.config.vars f.range, k.sized.values)
 
-  pub open_has : (t : TrailHead) (r' : Header) (w₂ : List ℕ)
-      → Holds g.sizes r' w₂ (with_assignment (whole g.sizes r w₁) (enqueued (whole g.sizes r w₁).assignment p no_reason)) → r' ≡ with_trail r t
-      → Has g r' w₂ (open_level (state_at g h w) p)
-  unfolding open_level
-  open_has t r' w₂ m e =
-      let q : state_at g r' w₂ ≡ open_level (state_at g h w) p =
-      after_enqueue r (whole g.sizes r w₁) p no_reason m e ∙ ap (λ (y : State). with_vars y (unchecked_enqueue y.vars p no_reason)) k.state in
-      record { still = still_assigned g r w₁ k.still (enqueued (whole g.sizes r w₁).assignment p no_reason) r' w₂ m (rw q (open_formed s.formed p f)); state = q }
+    pub open_room : length (next_level s.trail).vars.trail < length (next_level s.trail).vars.values
+    unfolding new_decision_level
+    open_room = omega (arith, trail_room k.formed.vars p f.range f.unset, k.sized.values)
 
--- ---- the pick
+    pub open_has : Has (moved s (enqueued (next_level s.trail) p no_reason)) (open_level (state_at s) p)
+    unfolding open_level
+    open_has = record { still = still_moved (enqueued (next_level s.trail) p no_reason) (open_formed k.formed p f); state = refl }
 
-module _ (g : Config) (h : Header) (w : List ℕ) (s : Still g h w) (act : List Float) where
-  pub picks_none : none ≡ pick act none 0 (state_at g h w).vars.values → none ≡ pick_branch_lit act (state_at g h w)
-  unfolding pick_branch_lit
-  picks_none e = rw (sym e, pick_branch_lit) refl
+  -- ---- the pick
 
-  module _ (v : ℕ) (e : some v ≡ pick act none 0 (state_at g h w).vars.values) where
-    pub picked_low : v < g.sizes.vars
-    picked_low = omega (arith, (pick-unset act (state_at g h w).vars.values v (sym e)).0, s.formed.vars.values)
-
-    pub picks_some : some (2 * v + get_or (state_at g h w).phases v 0) ≡ pick_branch_lit act (state_at g h w)
+  module _ (act : List Float) where
+    pub picks_none : none ≡ pick act none 0 s.trail.vars.values → none ≡ pick_branch_lit act (state_at s)
     unfolding pick_branch_lit
-    picks_some = rw (sym e, pick_branch_lit) refl
+    picks_none e = rw (sym e, pick_branch_lit) refl
 
-    pub phase_low : get_or (state_at g h w).phases v 0 < 2
-    phase_low = s.formed.signs (get_or (state_at g h w).phases v 0) (get_or_in (state_at g h w).phases v 0 (omega (arith, picked_low, s.formed.phases)))
+    module _ {v : ℕ} (e : some v ≡ pick act none 0 s.trail.vars.values) where
+      pub picked_low : v < length s.trail.vars.values
+      picked_low = (pick-unset act s.trail.vars.values v (sym e)).0
 
--- what comes of it
-module _ (g : Config) (h : Header) (w : List ℕ) (s : Still g h w) (act : List Float) where
-  pub branch_complete : none ≡ pick_branch_lit act (state_at g h w) → Decides g (assume act [] (state_at g h w)) (Complete h) w
-  unfolding assume
-  branch_complete e = record { is = rw (sym e, assume) refl; settled = s }
+      pub picked_fits : v < 2147483648
+      picked_fits = omega (arith, picked_low, k.sized.values, k.sized.vars)
 
-  module _ (p : ℕ) (e : some p ≡ pick_branch_lit act (state_at g h w)) where
-    pub branch_free : Free g.sizes.vars (state_at g h w) p
-    branch_free = branch_some s.formed act p (sym e)
+      pub picks_some : some (2 * v + get_or s.trail.phases v 0) ≡ pick_branch_lit act (state_at s)
+      unfolding pick_branch_lit
+      picks_some = rw (sym e, pick_branch_lit) refl
 
-    pub branch_shallow : decision_level (state_at g h w).vars ≤ 2 * g.sizes.vars + length (state_at g h w).vars.trail
-        → decision_level (state_at g h w).vars < 3 * g.sizes.vars
-    branch_shallow b = omega (arith, trail_room s.formed.vars p branch_free.range branch_free.unset)
+      pub phase_low : get_or s.trail.phases v 0 < 2
+      phase_low = k.formed.signs (get_or s.trail.phases v 0) (get_or_in s.trail.phases v 0 (omega (arith, picked_low, k.sized.values, k.formed.phases)))
 
-    pub branch_decides : (r : Header) (w' : List ℕ) → Has g r w' (open_level (state_at g h w) p) → Decides g (assume act [] (state_at g h w)) (Decided r) w'
+    -- what comes of it
+    pub branch_complete : none ≡ pick_branch_lit act (state_at s) → Decides (assume act [] (state_at s)) s s Complete
     unfolding assume
-    branch_decides r w' k = record { is = rw (sym e, assume) (ap model.decided k.state); settled = k.still }
+    branch_complete e =
+        record {
+          is = rw (sym e, assume) refl;
+          settled = (k, refl);
+          same = record { config = refl; scratch = refl; watches = refl; clauses = refl };
+        }
+
+    module _ {p : ℕ} (e : some p ≡ pick_branch_lit act (state_at s)) where
+      pub branch_free : Free s.config.vars (state_at s) p
+      branch_free = branch_some k.formed act p (sym e)
+
+      pub branch_shallow : decision_level s.trail.vars ≤ 2 * s.config.vars + length s.trail.vars.trail → decision_level s.trail.vars < 3 * s.config.vars
+      branch_shallow b = omega (arith, trail_room k.formed.vars p branch_free.range branch_free.unset)
+
+      pub branch_decides : {s' : State} → Has s' (open_level (state_at s) p) → Beside s s' → (s'.watches ≡ s.watches) × (s'.clauses ≡ s.clauses)
+          → Decides (assume act [] (state_at s)) s s' Decided
+      unfolding assume
+      branch_decides h b q =
+          record {
+            is = rw (sym e, assume) (ap definition.decided h.state);
+            settled = (h.still, b.finals);
+            same = record { config = b.config; scratch = b.scratch; watches = q.0; clauses = q.1 };
+          }
 
 -- ---- an assumption
 
 -- one that is not true: it is false, or decided on
-unfoldable pub taken_up : State → ℕ → model.Decision
-taken_up s p = elim (is_false s.vars.values p) [ true ↦ model.failed s (analyze_final s.store s.vars (neg p)) | false ↦ model.decided (open_level s p) ]
+unfoldable pub taken_up : model.State → ℕ → definition.Decision
+taken_up s p = elim (is_false s.vars.values p) [ true ↦ definition.failed s (analyze_final s.store s.vars (neg p)) | false ↦ definition.decided (open_level s p) ]
 
-module _ (act : List Float) (p : ℕ) (ps : List ℕ) (s : State) where
+module _ (act : List Float) (p : ℕ) (ps : List ℕ) (s : model.State) where
   assume_true : value_lit s.vars.values p ≡ 0 → assume act (p ∷ ps) s ≡ assume act ps (with_vars s (new_decision_level s.vars))
   unfolding assume
   assume_true e = rw (eq-eqb (value_lit s.vars.values p) l_true e, assume)
@@ -182,90 +207,117 @@ module _ (act : List Float) (p : ℕ) (ps : List ℕ) (s : State) where
   unfolding assume taken_up
   assume_other ne = rw (ne_eqb (value_lit s.vars.values p) l_true ne, assume)
 
-module _ (g : Config) (h : Header) (w : List ℕ) (s : Still g h w) (p : ℕ) (b : p < 2 * g.sizes.vars) where
-  pub falls_on : value_lit (state_at g h w).vars.values p ≡ 1 → neg p ∈ (state_at g h w).vars.trail
-  falls_on e = on_is_false s.formed.vars p b (eq-eqb (value_lit (state_at g h w).vars.values p) l_false e)
+module _ {s : State} (k : Still s) {p : ℕ} (b : p < 2 * s.config.vars) where
+  pub falls_on : value_lit s.trail.vars.values p ≡ 1 → neg p ∈ s.trail.vars.trail
+  falls_on e = on_is_false k.formed.vars p b (eq-eqb (value_lit s.trail.vars.values p) l_false e)
 
-  pub falls : (r : Header) (w' : List ℕ) → value_lit (state_at g h w).vars.values p ≡ 1
-      → Explained g.sizes h (whole g.sizes h w) (analyze_final (state_at g h w).store (state_at g h w).vars (neg p)) r w'
-      → Decides g (taken_up (state_at g h w) p) (Failed r) w'
+  pub falls : {s' : State} → value_lit s.trail.vars.values p ≡ 1 → Explained s s' (neg p) → Decides (taken_up (state_at s) p) s s' Failed
   unfolding taken_up
-  falls r w' e k =
-      let q : state_at g r w' ≡ state_at g h w = explained_state k in
-      record {
-        is = rw (eq-eqb (value_lit (state_at g h w).vars.values p) l_false e, taken_up, q, k.holds.whole) refl;
-        settled = record {
-          rep = k.holds.rep;
-          marks = rw k.holds.whole s.idle.marks;
-          pushed = rw k.holds.whole s.idle.pushed;
-          nodes = rw k.holds.whole s.idle.nodes;
-          formed = rw q s.formed;
-        };
-      }
+  falls e q =
+      let c : List ℕ = analyze_final (state_at s).store s.trail.vars (neg p) in
+      rw q
+      (record {
+        is = rw (eq-eqb (value_lit s.trail.vars.values p) l_false e, taken_up) refl;
+        settled = (
+          record {
+            sized = sized_with s k.sized s.trail k.sized.values (with_items s.finals c) (flagged-length s.finals.flag_cells c) (length-sets s.finals.item_cells 0 c);
+            marks = k.idle.marks;
+            pushed = k.idle.pushed;
+            nodes = k.idle.nodes;
+            formed = k.formed;
+          },
+          refl,
+        );
+        same = record { config = refl; scratch = refl; watches = refl; clauses = refl };
+      })
 
-  pub opens_free : value_lit (state_at g h w).vars.values p ≢ 0 → value_lit (state_at g h w).vars.values p ≢ 1 → Free g.sizes.vars (state_at g h w) p
-  opens_free a c =
-      record {
-        range = b;
-        unset = unset_of s.formed.vars p b (ne_eqb (value_lit (state_at g h w).vars.values p) l_true a) (ne_eqb (value_lit (state_at g h w).vars.values p) l_false c);
-      }
-
-  pub opens : (r : Header) (w' : List ℕ) → value_lit (state_at g h w).vars.values p ≢ 1 → Has g r w' (open_level (state_at g h w) p)
-      → Decides g (taken_up (state_at g h w) p) (Decided r) w'
+  pub opens : {s' : State} → value_lit s.trail.vars.values p ≢ 1 → Has s' (open_level (state_at s) p) → Beside s s' → (s'.watches ≡ s.watches) × (s'.clauses ≡ s.clauses)
+      → Decides (taken_up (state_at s) p) s s' Decided
   unfolding taken_up
-  opens r w' ne k = record { is = rw (ne_eqb (value_lit (state_at g h w).vars.values p) l_false ne, taken_up) (ap model.decided k.state); settled = k.still }
+  opens ne h a q =
+      record {
+        is = rw (ne_eqb (value_lit s.trail.vars.values p) l_false ne, taken_up) (ap definition.decided h.state);
+        settled = (h.still, a.finals);
+        same = record { config = a.config; scratch = a.scratch; watches = q.0; clauses = q.1 };
+      }
 
 -- ---- the levels of the assumptions
 
--- the first k assumptions have their levels
-pub record Assuming (g : Config) (act : List Float) (ps : List ℕ) (s : State) (k : ℕ) (r : Header) (w : List ℕ) : Type 0 where
-  pub still : Still g r w
-  pub levels : Levels (length ps) (state_at g r w).vars
-  pub count : k ≡ decision_level (state_at g r w).vars
-  pub same : assume act (drop k ps) (state_at g r w) ≡ decide act ps s
+-- from s the first k assumptions have their levels in s'
+pub record Assuming (act : List Float) (ps : List ℕ) (s : State) (k : ℕ) (s' : State) : Type 0 where
+  pub still : Still s'
+  pub levels : Levels (length ps) s'.trail.vars
+  pub count : k ≡ decision_level s'.trail.vars
+  pub result : assume act (drop k ps) (state_at s') ≡ decide act ps (state_at s)
+  pub finals : s'.finals ≡ s.finals
+  pub same : Same s s'
 
-pub assuming_starts : (g : Config) (act : List Float) (ps : List ℕ) (h : Header) (w : List ℕ) → Still g h w → Levels (length ps) (state_at g h w).vars
-    → (k : ℕ) → k ≡ decision_level (state_at g h w).vars → Assuming g act ps (state_at g h w) k h w
+pub assuming_starts : {act : List Float} {ps : List ℕ} {s : State} → Still s → Levels (length ps) s.trail.vars
+    → {k : ℕ} → k ≡ decision_level s.trail.vars → Assuming act ps s k s
 unfolding decide
-assuming_starts g act ps h w s l k e =
-    record { still = s; levels = l; count = e; same = ap (λ j. assume act (drop j ps) (state_at g h w)) e }
+assuming_starts {act} {ps} {s} h l e =
+    record {
+      still = h;
+      levels = l;
+      count = e;
+      result = ap (λ (j : ℕ). assume act (drop j ps) (state_at s)) e;
+      finals = refl;
+      same = record { config = refl; scratch = refl; watches = refl; clauses = refl };
+    }
 
-module _ (g : Config) (act : List Float) (ps : List ℕ) (range : Every (λ p. p < 2 * g.sizes.vars) ps) (short : length ps ≤ 2 * g.sizes.vars)
-    (s : State) (k : ℕ) (r : Header) (w : List ℕ) (i : Assuming g act ps s k r w) where
+module _ {act : List Float} {ps : List ℕ} {s : State} {k : ℕ} {s' : State} (i : Assuming act ps s k s') where
+  settled_then : (r : Decision) (s'' : State) → Settled r s' s'' → Settled r s s''
+  settled_then Decided s'' x = (x.0, x.1 ∙ i.finals)
+  settled_then Complete s'' x = (x.0, x.1 ∙ i.finals)
+  settled_then Failed s'' x = (x.0, x.1 ∙ ap (λ (f : Members). with_items f s''.finals.items) i.finals)
+
+  same_then : {s'' : State} → Same s' s'' → Same s s''
+  same_then q =
+      record {
+        config = q.config ∙ i.same.config;
+        scratch = q.scratch ∙ i.same.scratch;
+        watches = q.watches ∙ i.same.watches;
+        clauses = q.clauses ∙ i.same.clauses;
+      }
+
+  decides_then : {m : definition.Decision} {r : Decision} {s'' : State} → m ≡ decide act ps (state_at s) → Decides m s' s'' r → Decides (decide act ps (state_at s)) s s'' r
+  decides_then {r = r} {s'' = s''} e q = record { is = q.is ∙ e; settled = settled_then r s'' q.settled; same = same_then q.same }
+
+  -- the one next in turn
   module _ (b : k < length ps) where
     abbrev p : ℕ
     p = get_or ps k 0
 
-    pub assuming_range : get_or ps k 0 < 2 * g.sizes.vars
-    assuming_range = range (get_or ps k 0) (get_or_in ps k 0 b)
+    pub assuming_range : Every (λ q. q < 2 * s.config.vars) ps → get_or ps k 0 < 2 * s'.config.vars
+    assuming_range range = rw i.same.config (range (get_or ps k 0) (get_or_in ps k 0 b))
 
-    here_is : assume act (p ∷ drop (suc k) ps) (state_at g r w) ≡ decide act ps s
-    here_is = ap (λ l. assume act l (state_at g r w)) (sym (drop-cons ps k 0 b)) ∙ i.same
+    here_is : assume act (p ∷ drop (suc k) ps) (state_at s') ≡ decide act ps (state_at s)
+    here_is = ap (λ (l : List ℕ). assume act l (state_at s')) (sym (drop-cons ps k 0 b)) ∙ i.result
 
-    pub assuming_shallow : decision_level (state_at g r w).vars < 3 * g.sizes.vars
-    assuming_shallow = omega (arith, i.count, i.still.rep.room.some)
+    pub assuming_var : Every (λ q. q < 2 * s.config.vars) ps → var (get_or ps k 0) < length s'.trail.vars.values
+    assuming_var range = omega (arith, assuming_range range, i.still.sized.values)
 
     -- it is true
-    pub assuming_turns : value_lit (state_at g r w).vars.values (get_or ps k 0) ≡ 0 → (r' : Header) (w' : List ℕ)
-        → Has g r' w' (with_vars (state_at g r w) (new_decision_level (state_at g r w).vars)) → Assuming g act ps s (k + 1) r' w'
-    assuming_turns e r' w' q =
-        let m = level_more (state_at g r w).vars in
+    pub assuming_turns : {x : ℕ} → x ≡ value_lit s'.trail.vars.values (get_or ps k 0) → x ≡ 0 → Assuming act ps s (k + 1) (moved s' (next_level s'.trail))
+    assuming_turns e z =
+        let m = level_more s'.trail.vars in
+        let h = level_has i.still in
         record {
-          still = q.still;
-          levels = rw q.state (levels_empty (length ps) (state_at g r w).vars (omega (arith, i.count)) i.levels);
-          count = rw q.state (omega (arith, i.count));
-          same = rw (q.state, add-one) (sym (assume_true act p (drop (suc k) ps) (state_at g r w) e) ∙ here_is);
+          still = h.still;
+          levels = levels_empty (length ps) s'.trail.vars (omega (arith, i.count)) i.levels;
+          count = omega (arith, i.count);
+          result = rw add-one (sym (assume_true act p (drop (suc k) ps) (state_at s') (sym e ∙ z)) ∙ here_is);
+          finals = i.finals;
+          same = record { config = i.same.config; scratch = i.same.scratch; watches = i.same.watches; clauses = i.same.clauses };
         }
 
     -- it is not
-    pub assuming_stops : value_lit (state_at g r w).vars.values (get_or ps k 0) ≢ 0 → {d : Decision} {w' : List ℕ} → Decides g (taken_up (state_at g r w) (get_or ps k 0)) d w'
-        → Decides g (decide act ps s) d w'
-    assuming_stops ne q = record { is = q.is ∙ sym (assume_other act p (drop (suc k) ps) (state_at g r w) ne) ∙ here_is; settled = q.settled }
+    pub assuming_stops : {x : ℕ} → x ≡ value_lit s'.trail.vars.values (get_or ps k 0) → x ≢ 0 → {r : Decision} {s'' : State}
+        → Decides (taken_up (state_at s') (get_or ps k 0)) s' s'' r
+        → Decides (decide act ps (state_at s)) s s'' r
+    assuming_stops e ne q = decides_then (sym (assume_other act p (drop (suc k) ps) (state_at s') (λ z. ne (e ∙ z))) ∙ here_is) q
 
   -- all have their levels
-  module _ (b : length ps ≤ k) where
-    pub assuming_bound : decision_level (state_at g r w).vars ≤ 2 * g.sizes.vars + length (state_at g r w).vars.trail
-    assuming_bound = omega (arith, levels_trail i.still.formed.vars (length ps) i.levels)
-
-    pub assuming_ends : {d : Decision} {w' : List ℕ} → Decides g (assume act [] (state_at g r w)) d w' → Decides g (decide act ps s) d w'
-    assuming_ends q = record { is = q.is ∙ ap (λ l. assume act l (state_at g r w)) (sym (drop_of_length-le ps b)) ∙ i.same; settled = q.settled }
+  module _ (short : length ps ≤ 2 * s.config.vars) (b : length ps ≤ k) where
+    pub assuming_bound : decision_level s'.trail.vars ≤ 2 * s'.config.vars + length s'.trail.vars.trail
+    assuming_bound = omega (arith, levels_trail i.still.formed.vars (length ps) i.levels, ap (λ (g : Config). g.vars) i.same.config)

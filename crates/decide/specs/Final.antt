@@ -1,34 +1,23 @@
--- The final clause in the slice: what the walk finds, and that no mark is left.
-use Rattle.std.specs.Prelude.{ℕ, suc, ◌*◌, ◌≤◌, ◌<◌, ◌≡◌, ◌≢◌, get_or, drop, set, replicate}
-use Rattle.std.proofs.Common.{arith, sym, subst, ◌∙◌, length-set, get_or-set_same, get_or-set_other}
-use Rattle.std.proofs.Math.Path.{refl, ap}
-use mathlib.Core.List.{List, [], ◌∷◌, reverse}
-use Rattle.std.proofs.Math.ListN.{length, get_or-eq_default}
-use Rattle.std.proofs.lemmas.List.{length-replicate, get_or-replicate}
+-- The final clause: what the walk finds, and that no mark is left.
+use Rattle.std.specs.Prelude.{ℕ, ◌+◌, ◌*◌, ◌<◌, ◌≡◌, refl, ◌≢◌, List, [], ◌∷◌, reverse, length, get_or, drop, set, replicate}
+use Rattle.std.proofs.Common.{arith, sym, ap, subst, ◌∙◌, length-set, get_or-set_same, get_or-set_other}
 use Rattle.region.specs.Table.{all-zero}
 use Rattle.model.specs.Lit.{var}
 use Rattle.model.specs.State.{Store, VarState, decision_level}
 use Rattle.model.specs.Final.{mem, insert, blame, analyze_final}
-use Rattle.lawbase.specs.Basics.{◌∈◌, split, same?, less?}
-use Rattle.lawbase.specs.WellFormed.{WellFormed}
+use Rattle.lawbase.specs.Basics.{◌∈◌, split, same?}
+use Rattle.lawbase.specs.WellFormed as formed
 use Rattle.assign.proofs.Reading.{trail_range, trail_var}
-use Rattle.learning.specs.Marks.{Cells}
 use Rattle.learning.proofs.Marks.{cells-set, cells_none}
 use Rattle.learning.specs.Parts.{upper}
 use Rattle.learning.proofs.Final.{final_law}
-use Rattle.scratch.specs.View.{marked}
-use Rattle.litset.specs.View.{Members, inserted, with_items}
-use Rattle.litset.specs.Items.{inserted_with, with_items_again}
-use Rattle.state.specs.declared.Sizes.{Sizes}
-use Rattle.state.specs.declared.Header.{Header}
-use Rattle.state.specs.declared.Config.{Config}
-use Rattle.state.specs.View.{Whole, whole, Rep, Holds, state_of, with_scratch, with_final}
-use Rattle.state.specs.Laws.{with_final_head}
-use Rattle.state.specs.MarksLaws.{members, Insertable, final_counted, final_same, scratch_length}
-use Rattle.state.specs.AssignmentLaws.{levels_held}
-use Rattle.state.specs.Still.{config_of, state_at, Still}
-use Rattle.decide.specs.Marking.{remarked}
-use Rattle.decide.specs.Blaming.{traced, store_of, vars_of, Begins, blame-begins, Blamable, Blamed}
+use Rattle.litset.specs.View.{Members, Insertable, inserted, with_items}
+use Rattle.litset.specs.Laws.{no_flags}
+use Rattle.litset.specs.Items.{inserted_with, with_items_again, with_items_none}
+use Rattle.watch.specs.Meaning.{as_watches}
+use Rattle.state.specs.declared.State.{State}
+use Rattle.state.specs.Still.{Still, state_at}
+use Rattle.decide.specs.Blaming.{stored, flagged-length, blame_same, Begins, blame-begins, Blamable, Blamed}
 
 -- ---- the definition's two cases
 
@@ -52,153 +41,129 @@ module _ (st : Store) (vs : VarState) (p : ℕ) where
       go [] q = absurd (omega arith)
       go (k ∷ l) q = refl
 
-zeros : (n v : ℕ) → ◌≡◌ {A = ℕ} (get_or (replicate n 0) v 0) 0
-zeros n v = split (less? v n)
-    (λ h. get_or-replicate {A = ℕ} n v 0 0 h)
-    (λ h. get_or-eq_default {A = ℕ} (replicate n 0) 0 {n = v} (rw (length-replicate {A = ℕ} n 0) h))
-
 insert_first : (p : ℕ) → insert [] p ≡ p ∷ []
 unfolding insert mem
 insert_first p = refl
 
 -- ---- what it leaves
 
--- the whole with the final clause c
-pub record Explained (d : Sizes) (h : Header) (x : Whole) (c : List ℕ) (r : Header) (w : List ℕ) : Type 0 where
-  pub holds : Holds d r w (with_final x (with_items x.final c))
-  pub head : r ≡ with_final_head h (members (length c))
+-- s with other marks, and another final clause
+abbrev pub traced : State → List ℕ → Members → State
+traced s m f =
+    record {
+      config = s.config;
+      trail = s.trail;
+      scratch = record { marks = m; buffer = s.scratch.buffer; stack = s.scratch.stack; notes = s.scratch.notes };
+      watches = s.watches;
+      clauses = s.clauses;
+      finals = f;
+      qhead = s.qhead;
+      ok = s.ok;
+    }
 
--- the state is as it was
-pub explained_state : {d : Sizes} {h : Header} {x : Whole} {c : List ℕ} {r : Header} {w : List ℕ} → Explained d h x c r w → state_of r (whole d r w) ≡ state_of h x
-explained_state {x = x} {c = c} {r = r} e = ap (state_of r) e.holds.whole ∙ ap (λ (y : Header). state_of y (with_final x (with_items x.final c))) e.head
+-- s with the final clause of p
+abbrev pub Explained : State → State → ℕ → Type 0
+Explained s s' p = s' ≡ traced s s.scratch.marks (with_items s.finals (analyze_final (state_at s).store s.trail.vars p))
 
-module _ (g : Config) (h : Header) (w : List ℕ) (s : Still g h w) (p : ℕ) (on : p ∈ (vars_of (whole g.sizes h w)).trail) where
-  abbrev d : Sizes
-  d = g.sizes
-
-  abbrev x : Whole
-  x = whole g.sizes h w
-
-  abbrev st : Store
-  st = store_of (whole g.sizes h w)
-
+module _ {s : State} (k : Still s) {p : ℕ} (on : p ∈ s.trail.vars.trail) where
   abbrev vs : VarState
-  vs = vars_of (whole g.sizes h w)
+  vs = s.trail.vars
 
-  pub explain_var : var p < g.sizes.vars
-  explain_var = trail_var s.formed.vars p on
+  abbrev n : ℕ
+  n = length s.trail.vars.values
 
-  pub explain_asks : Insertable g.sizes h (whole g.sizes h w) p
-  explain_asks = record { low = trail_range s.formed.vars p on; room = λ _. omega (arith, sym (final_counted s.rep) ∙ ap length s.idle.final) }
+  assigned : formed.Assignment n s.clauses.clauses vs
+  assigned = subst (λ (j : ℕ). formed.Assignment j s.clauses.clauses vs) (sym k.sized.values) k.formed.vars
 
-  -- p is the clause's first literal
-  module _ (r : Header) (w₁ : List ℕ) (k : Holds d r w₁ (with_final x (inserted x.final p))) (e : r ≡ with_final_head h (members (length (insert x.final.items p)))) where
-    out_is : insert x.final.items p ≡ p ∷ []
-    out_is = ap (λ o. insert o p) s.idle.final ∙ insert_first p
+  pub explain_mark : var p < length s.scratch.marks
+  explain_mark = omega (arith, trail_var k.formed.vars p on, k.sized.marks)
 
-    set_is : inserted x.final p ≡ with_items x.final (p ∷ [])
-    set_is =
-        ap (λ (m : Members). inserted m p) (sym (final_same s.rep))
-        ∙ inserted_with x.final x.final.items p
-        ∙ ap (with_items x.final) out_is
+  pub explain_asks : Insertable s.finals p
+  explain_asks =
+      record { low = omega (arith, trail_range k.formed.vars p on, k.sized.flags); room = λ _. omega (arith, ap length k.idle.final, k.sized.members) }
 
-    first_holds : Holds d r w₁ (with_final x (with_items x.final (p ∷ [])))
-    first_holds = subst (λ (m : Members). Holds d r w₁ (with_final x m)) set_is k
+  set_is : inserted s.finals p ≡ with_items s.finals (p ∷ [])
+  set_is =
+      ap (λ (f : Members). inserted f p) (sym (with_items_none s.finals k.idle.final))
+      ∙ inserted_with s.finals [] p
+      ∙ ap (with_items s.finals) (insert_first p)
 
-    first_head : r ≡ with_final_head h (members 1)
-    first_head = rw out_is at e
+  -- no level is open
+  pub explain_shallow : decision_level vs ≡ 0 → Explained s (traced s s.scratch.marks (inserted s.finals p)) p
+  explain_shallow z = rw (final_shallow (state_at s).store vs p z, set_is) refl
 
-    -- no level is open
-    pub explain_shallow : decision_level (vars_of (whole d r w₁)) ≡ 0 → Explained g.sizes h (whole g.sizes h w) (analyze_final (state_at g h w).store (state_at g h w).vars p) r w₁
-    explain_shallow z = rw (final_shallow st vs p (rw first_holds.whole at z)) (record { holds = first_holds; head = first_head })
+  -- p is marked
+  module _ (deep : 0 < decision_level vs) {start : ℕ} (first : start ≡ get_or vs.limits 0 0) where
+    abbrev seen : List ℕ
+    seen = set s.scratch.marks (var p) 1
 
-    -- p is marked
-    module _ (w₂ : List ℕ) (m : Holds d r w₂ (with_scratch (whole d r w₁) (marked (whole d r w₁).scratch (var p) 1)))
-        (z : decision_level (vars_of (whole d r w₁)) ≢ 0) where
-      abbrev first_seen : List ℕ
-      first_seen = set (replicate g.sizes.vars 0) (var p) 1
+    abbrev final : Members
+    final = inserted s.finals p
 
-      marked_holds : Holds d r w₂ (traced x first_seen (p ∷ []))
-      marked_holds = rw (first_holds.whole, s.idle.marks) at m
+    seen_is : seen ≡ set (replicate n 0) (var p) 1
+    seen_is = rw (k.idle.marks, k.sized.values) refl
 
-      deep : 0 < decision_level vs
-      deep = let y : decision_level vs ≢ 0 = rw first_holds.whole at z in omega arith
+    walked_is : (st : Store) → blame st vs (upper vs start) seen (insert s.finals.items p) ≡ analyze_final st vs p
+    walked_is st = rw (k.idle.final, insert_first p, seen_is, first) (sym (final_deep st vs p deep))
 
-      pub explain_limit : Rep d r w₂ × (0 < r.trail.levels)
-      explain_limit = (marked_holds.rep, omega (arith, deep, levels_held marked_holds))
+    pub explain_walk : Blamable s.trail s.clauses seen final start
+    explain_walk =
+        record {
+          formed = assigned;
+          proper = rw k.sized.values k.formed.store.proper;
+          deep = deep;
+          first = first;
+          marks = length-set s.scratch.marks (var p) 1 ∙ k.sized.marks ∙ sym k.sized.values;
+          cells = rw seen_is (cells-set (replicate n 0) (var p) 1 (omega arith) (cells_none n));
+          flags = ap (λ (f : Members). length f.flag_cells) set_is
+              ∙ flagged-length s.finals.flag_cells (p ∷ [])
+              ∙ k.sized.flags
+              ∙ ap (λ (j : ℕ). 2 * j) (sym k.sized.values);
+          members = ap (λ (f : Members). length f.item_cells) set_is
+              ∙ length-set s.finals.item_cells 0 p
+              ∙ k.sized.members
+              ∙ ap (λ (j : ℕ). j + 1) (sym k.sized.values);
+          items = subst (λ (f : Members). f ≡ with_items f f.items) (sym set_is) (sym (with_items_again s.finals p []));
+          room = rw (walked_is (stored s.clauses)) (final_law n (stored s.clauses) vs assigned p on).short;
+        }
 
-      final_is : analyze_final st vs p ≡ blame st vs (upper vs (get_or vs.limits 0 0)) first_seen (p ∷ [])
-      final_is = final_deep st vs p deep ∙ ap (λ n. blame st vs (upper vs (get_or vs.limits 0 0)) (set (replicate n 0) (var p) 1) (p ∷ [])) s.formed.vars.values
+    -- the walk is done, and p is not marked any more
+    module _ {m : List ℕ} {f : Members} (b : Blamed s.trail s.clauses seen m final f start) where
+      m-length : length m ≡ s.config.vars
+      m-length = b.sized ∙ length-set s.scratch.marks (var p) 1 ∙ k.sized.marks
 
-      marked_state : state_at g r w₂ ≡ state_at g h w
-      marked_state = ap (state_of r) marked_holds.whole ∙ ap (λ (y : Header). state_of y (traced x first_seen (p ∷ []))) first_head
+      pub explain_unmark : var p < length m
+      explain_unmark = omega (arith, m-length, trail_var k.formed.vars p on)
 
-      module _ (start : ℕ) (f : start ≡ get_or (vars_of (whole d r w₂)).limits 0 0) where
-        start_is : start ≡ get_or vs.limits 0 0
-        start_is = rw marked_holds.whole at f
+      only_p : (v : ℕ) → v ≢ var p → get_or m v 0 ≡ 0
+      only_p v ne = split (same? (get_or m v 0) 0) (λ e. e) (λ y.
+          let q : 0 < get_or seen v 0 = b.only v (omega arith) in
+          let o : get_or seen v 0 ≡ get_or s.scratch.marks v 0 = get_or-set_other s.scratch.marks (var p) v 1 0 ne in
+          let z : get_or s.scratch.marks v 0 ≡ 0 = rw k.idle.marks (no_flags s.config.vars v) in
+          absurd (omega arith))
 
-        walked_is : blame st vs (upper vs start) first_seen (p ∷ []) ≡ analyze_final st vs p
-        walked_is = ap (λ j. blame st vs (upper vs j) first_seen (p ∷ [])) start_is ∙ sym final_is
+      cleared : set m (var p) 0 ≡ s.scratch.marks
+      cleared =
+          all-zero s.config.vars (set m (var p) 0) (length-set m (var p) 0 ∙ m-length)
+          (λ v i. split (same? v (var p))
+          (λ e. ap (λ (j : ℕ). get_or (set m (var p) 0) j 0) e ∙ get_or-set_same m (var p) 0 0 explain_unmark)
+          (λ ne. get_or-set_other m (var p) v 0 0 ne ∙ only_p v ne))
+          ∙ sym k.idle.marks
 
-        walked_room : length (blame st vs (upper vs start) first_seen (p ∷ [])) ≤ suc g.sizes.vars
-        walked_room = rw walked_is (final_law g.sizes.vars st vs s.formed.vars p on).short
+      -- p was put in before the walk
+      same_items : {o : List ℕ} → Begins p o → with_items (with_items s.finals (p ∷ [])) o ≡ with_items s.finals o
+      same_items {o} g = rw g.is (with_items_again s.finals p g.rest)
 
-        first_cells : Cells first_seen
-        first_cells = cells-set (replicate g.sizes.vars 0) (var p) 1 (omega arith) (cells_none g.sizes.vars)
+      final_is : f ≡ with_items s.finals (analyze_final (state_at s).store vs p)
+      final_is =
+          let o : List ℕ = blame (stored s.clauses) vs (upper vs start) seen (insert s.finals.items p) in
+          let g : Begins p o =
+          blame-begins (stored s.clauses) vs (upper vs start) seen p (insert s.finals.items p)
+          (rw (k.idle.final, insert_first p) (record { rest = []; is = refl })) in
+          b.finals
+          ∙ ap (λ (y : Members). with_items y o) set_is
+          ∙ same_items g
+          ∙ ap (with_items s.finals) (blame_same s.clauses.clauses [] (as_watches s.watches) vs (upper vs start) seen (insert s.finals.items p) ∙ walked_is (state_at s).store)
 
-        pub explain_walk : Rep d r w₂ × Blamable g r w₂ start
-        explain_walk = (
-          marked_holds.rep,
-          record {
-            formed = rw marked_state s.formed;
-            deep = rw marked_holds.whole deep;
-            first = f;
-            cells = rw marked_holds.whole first_cells;
-            room = rw marked_holds.whole walked_room;
-          },
-        )
-
-        -- the walk is done, and p is not marked any more
-        module _ (r' : Header) (w₃ w₄ : List ℕ) (b : Blamed d r (traced x first_seen (p ∷ [])) start r' w₃)
-            (c : Holds d r' w₄ (with_scratch (whole d r' w₃) (marked (whole d r' w₃).scratch (var p) 0))) where
-          seen-length : length b.seen ≡ g.sizes.vars
-          seen-length = rw b.holds.whole at (scratch_length b.holds.rep).marks
-
-          only_p : (v : ℕ) → v ≢ var p → get_or b.seen v 0 ≡ 0
-          only_p v ne = split (same? (get_or b.seen v 0) 0) (λ e. e) (λ y.
-              let q : 0 < get_or first_seen v 0 = b.only v (omega arith) in
-              let o : get_or first_seen v 0 ≡ get_or (replicate g.sizes.vars 0) v 0 = get_or-set_other (replicate g.sizes.vars 0) (var p) v 1 0 ne in
-              absurd (omega (arith, zeros g.sizes.vars v)))
-
-          cleared : set b.seen (var p) 0 ≡ replicate g.sizes.vars 0
-          cleared =
-              all-zero g.sizes.vars (set b.seen (var p) 0) (length-set b.seen (var p) 0 ∙ seen-length)
-              (λ v i. split (same? v (var p))
-              (λ e. ap (λ j. get_or (set b.seen (var p) 0) j 0) e ∙ get_or-set_same b.seen (var p) 0 0 (omega (arith, seen-length, explain_var)))
-              (λ ne. get_or-set_other b.seen (var p) v 0 0 ne ∙ only_p v ne))
-
-          -- p was put in before the walk
-          same_items : {o : List ℕ} → Begins p o → with_items (with_items x.final (p ∷ [])) o ≡ with_items x.final o
-          same_items {o} f = rw f.is (with_items_again x.final p f.rest)
-
-          ended : Explained d h x (blame st vs (upper vs start) first_seen (p ∷ [])) r' w₄
-          ended =
-              let o : List ℕ = blame st vs (upper vs start) first_seen (p ∷ []) in
-              let again : with_items (with_items x.final (p ∷ [])) o ≡ with_items x.final o =
-              same_items (blame-begins st vs (upper vs start) first_seen p (p ∷ []) (record { rest = []; is = refl })) in
-              let l : Holds d r' w₄ (traced (traced x first_seen (p ∷ [])) (set b.seen (var p) 0) o) = rw b.holds.whole at c in
-              let k : Holds d r' w₄ (traced x (set b.seen (var p) 0) o) =
-              subst (λ (m : Members). Holds d r' w₄ (with_final (remarked x (set b.seen (var p) 0)) m)) again l in
-              record {
-                holds = rw (cleared ∙ sym s.idle.marks) at k;
-                head = b.head ∙ ap (λ (y : Header). with_final_head y (members (length (blame st vs (upper vs start) first_seen (p ∷ []))))) first_head;
-              }
-
-        -- the mark of p's variable is 0 afterwards
-        pub explain_ends : (r' : Header) (w₃ w₄ : List ℕ) → Blamed d r (whole d r w₂) start r' w₃ → (mark : ℕ)
-            → Holds d r' w₄ (with_scratch (whole d r' w₃) (marked (whole d r' w₃).scratch (var p) mark)) → mark ≡ 0
-            → Explained g.sizes h (whole g.sizes h w) (analyze_final (state_at g h w).store (state_at g h w).vars p) r' w₄
-        explain_ends r' w₃ w₄ b mark c e =
-            rw walked_is at
-            (ended r' w₃ w₄ (rw marked_holds.whole at b)
-            (subst (λ (m : ℕ). Holds d r' w₄ (with_scratch (whole d r' w₃) (marked (whole d r' w₃).scratch (var p) m))) e c))
+      pub explain_ends : Explained s (traced s (set m (var p) 0) f) p
+      explain_ends = rw (cleared, final_is) refl

@@ -1,42 +1,39 @@
 -- A clause is sorted, simplified and taken.
-use Rattle.std.specs.Prelude.{ℕ, ◌*◌, ◌≤◌, ◌<◌, ◌≡◌, Bool, true, false, List, [], length, get_or, take}
-use Rattle.std.proofs.Common.{arith, sym, ap, subst, ◌∙◌}
-use Rattle.std.proofs.Math.Path.{refl}
-use Rattle.std.specs.Prelude.{Option, None as none, Some as some}
+use Rattle.std.specs.Prelude.{ℕ, ◌*◌, ◌≤◌, ◌<◌, ◌≡◌, refl, Bool, true, false, List, [], length, get_or, Option, None as none, Some as some}
+use Rattle.std.proofs.Common.{arith, sym, ap, ◌∙◌}
 use Rattle.model.specs.Lit.{undef_lit}
 use Rattle.model.specs.Script as Script
-use Rattle.model.specs.State.{State, decision_level}
+use Rattle.model.specs.State as model
+use Rattle.model.specs.State.{decision_level}
 use Rattle.model.specs.Intake as intake
 use Rattle.model.specs.Intake.{sort, simplify, add_kept, add_clause}
 use Rattle.lawbase.specs.Basics.{Every}
 use Rattle.lawbase.specs.WellFormed.{WellFormed}
-use Rattle.assign.proofs.Lists.{get_or_in_take}
+use Rattle.assign.proofs.Lists.{get_or_in}
 use Rattle.assign.proofs.Reading.{trail_room}
 use Rattle.watching.proofs.Sort.{sort_every}
 use Rattle.watching.specs.Intake.{Residue}
 use Rattle.watching.proofs.Intake.{reduced}
-use Rattle.state.specs.declared.Header.{Header}
-use Rattle.state.specs.declared.Config.{Config}
-use Rattle.state.specs.View.{Whole, whole, state_of, Rep}
-use Rattle.state.specs.AssignmentLaws.{assigned_counted}
-use Rattle.state.specs.Still.{config_of, state_at, Idle, Still, Has}
-use Rattle.intake.specs.declared.Taken.{Taken}
-use Rattle.intake.specs.declared.Kept.{Kept}
-use Rattle.intake.specs.Buffer.{buffer_of, But, Front, but_trans, but_length}
-use Rattle.intake.specs.Simplifying.{values_of, Simplified}
+use Rattle.scratch.specs.Row.{Row}
+use Rattle.scratch.specs.View.{with_buffer}
+use Rattle.state.specs.declared.State.{State}
+use Rattle.state.specs.Still.{config_of, state_at, Sized, Idle, Still, Has}
+use Rattle.intake.specs.declared.Answer.{Answer}
+use Rattle.intake.specs.Sorting.{Sorts}
+use Rattle.intake.specs.Simplifying.{Simplifiable, Simplified}
 use Rattle.intake.specs.Formed.{residue_of, left_unset, add_clause_formed}
-use Rattle.intake.specs.Taking.{Takeable, Took}
+use Rattle.intake.specs.Taking.{Takeable, Took, answer_of}
 
 -- ---- the cases of `add_clause`
 
-abbrev chosen : Bool → Option (List ℕ) → Script.Config → State → intake.Taken
+abbrev chosen : Bool → Option (List ℕ) → Script.Config → model.State → intake.Taken
 chosen b o cfg s =
     elim b [
       | false ↦ record { state = s; answer = 0 }
       | true ↦ elim o [ none ↦ record { state = s; answer = 1 } | some kept ↦ add_kept cfg s kept ]
     ]
 
-module _ (cfg : Script.Config) (s : State) (c : List ℕ) where
+module _ (cfg : Script.Config) (s : model.State) (c : List ℕ) where
   add_is : add_clause cfg s c ≡ chosen s.ok (simplify s.vars.values undef_lit [] (sort c)) cfg s
   unfolding add_clause
   add_is = refl
@@ -50,92 +47,95 @@ module _ (cfg : Script.Config) (s : State) (c : List ℕ) where
       ∙ ap (λ (b : Bool). chosen b (simplify s.vars.values undef_lit [] (sort c)) cfg s) e
       ∙ ap (λ (r : Option (List ℕ)). chosen true r cfg s) q
 
-  add_dropped : s.ok ≡ true → simplify s.vars.values undef_lit [] (sort c) ≡ none → add_clause cfg s c ≡ record { state = s; answer = 1 }
-  add_dropped e q = add_open e none q
+-- ---- the state but for its buffer
 
-  add_left : (k : List ℕ) → s.ok ≡ true → simplify s.vars.values undef_lit [] (sort c) ≡ some k → add_clause cfg s c ≡ add_kept cfg s k
-  add_left k e q = add_open e (some k) q
+-- with b as the buffer
+abbrev pub with_row : State → Row → State
+with_row s b =
+    record { config = s.config; trail = s.trail; scratch = with_buffer s.scratch b; watches = s.watches; clauses = s.clauses; finals = s.finals; qhead = s.qhead; ok = s.ok }
 
--- ---- over the slice
+row_sized : (s : State) (b : Row) → Sized s → length b.cells ≡ length s.scratch.buffer.cells → Sized (with_row s b)
+row_sized s b k e =
+    record {
+      some = k.some;
+      vars = k.vars;
+      room = k.room;
+      lit_room = k.lit_room;
+      values = k.values;
+      marks = k.marks;
+      buffer = e ∙ k.buffer;
+      stack = k.stack;
+      notes = k.notes;
+      lists = k.lists;
+      blockers = k.blockers;
+      chains = k.chains;
+      clauses = k.clauses;
+      literals = k.literals;
+      flags = k.flags;
+      members = k.members;
+    }
 
-module _ (g : Config) (h : Header) (w : List ℕ) (st : Still g h w) (base : decision_level (state_at g h w).vars ≡ 0)
-    (part : List ℕ) (range : Every (λ x. x < 2 * g.sizes.vars) part) (fits : length part ≤ 2 * g.sizes.vars) where
-  small : 2 * g.sizes.vars ≤ undef_lit
-  small = omega (arith, st.rep.room.vars)
+row_idle : (s : State) (b : Row) → Idle s → Idle (with_row s b)
+row_idle s b k = record { marks = k.marks; final = k.final; pushed = k.pushed; nodes = k.nodes }
 
-  finish : (r : Header) (a : ℕ) (w' : List ℕ) (t : intake.Taken) → add_clause (config_of g) (state_at g h w) part ≡ t → Rep g.sizes r w' → Idle g.sizes.vars (whole g.sizes r w')
-      → state_at g r w' ≡ t.state → a ≡ t.answer
-      → Has g r w' (add_clause (config_of g) (state_at g h w) part).state × (a ≡ (add_clause (config_of g) (state_at g h w) part).answer)
-  finish r a w' t e rep idle es ea =
-      let q : state_at g r w' ≡ (add_clause (config_of g) (state_at g h w) part).state = es ∙ ap (λ (x : intake.Taken). x.state) (sym e) in
-      let f : WellFormed (config_of g) (add_clause (config_of g) (state_at g h w) part).state = add_clause_formed st.formed part range base small in (
-        record { still = record { rep = rep; idle = idle; formed = subst (λ (x : State). WellFormed (config_of g) x) (sym q) f }; state = q },
-        ea ∙ ap (λ (x : intake.Taken). x.answer) (sym e),
-      )
+-- what `add_clause` promises
+pub record Adds (s s' : State) (part : List ℕ) (r : Answer) : Type 0 where
+  pub has : Has s' (add_clause (config_of s.config) (state_at s) part).state
+  pub answer : answer_of r ≡ (add_clause (config_of s.config) (state_at s) part).answer
+  pub config : s'.config ≡ s.config
 
-  pub taken-closed : h.ok ≡ false → Has g h w (add_clause (config_of g) (state_at g h w) part).state × (0 ≡ (add_clause (config_of g) (state_at g h w) part).answer)
-  taken-closed e = finish h 0 w (record { state = state_at g h w; answer = 0 }) (add_closed (config_of g) (state_at g h w) part e) st.rep st.idle refl refl
+module _ (s : State) (st : Still s) (base : decision_level s.trail.vars ≡ 0) (part : List ℕ) (range : Every (λ x. x < 2 * s.config.vars) part) where
+  small : 2 * s.config.vars ≤ undef_lit
+  small = omega (arith, st.sized.vars)
+
+  finish : (s' : State) (r : Answer) (t : intake.Taken) → add_clause (config_of s.config) (state_at s) part ≡ t → s'.config ≡ s.config → Sized s' → Idle s'
+      → state_at s' ≡ t.state → answer_of r ≡ t.answer → Adds s s' part r
+  finish s' r t e c sized idle es ea =
+      let q : state_at s' ≡ (add_clause (config_of s.config) (state_at s) part).state = es ∙ ap (λ (x : intake.Taken). x.state) (sym e) in
+      let f : WellFormed (config_of s'.config) (state_at s') = rw (q, c) (add_clause_formed st.formed part range base small) in
+      record { has = record { still = record { sized = sized; idle = idle; formed = f }; state = q }; answer = ea ∙ ap (λ (x : intake.Taken). x.answer) (sym e); config = c }
+
+  pub adds_closed : s.ok ≡ false → Adds s s part Answer.NoModel
+  adds_closed e = finish s Answer.NoModel (record { state = state_at s; answer = 0 }) (add_closed (config_of s.config) (state_at s) part e) refl st.sized st.idle refl refl
 
   -- the part is sorted into the buffer
-  module _ {w₁ : List ℕ} (f : Front g.sizes h w₁ (whole g.sizes h w) (length part) (sort part)) where
-    pub sorted_low : (k : ℕ) → k < length part → get_or (buffer_of g.sizes h w₁) k 0 < 2 * g.sizes.vars
-    sorted_low k l =
-        let e : Every (λ x. x < 2 * g.sizes.vars) (take (length part) (buffer_of g.sizes h w₁)) = rw f.front (sort_every (λ x. x < 2 * g.sizes.vars) part range) in
-        e (get_or (buffer_of g.sizes h w₁) k 0) (get_or_in_take (buffer_of g.sizes h w₁) (length part) k 0 l (omega (arith, l, fits, but_length f.but.rep)))
-
-    same_values : values_of (whole g.sizes h w₁) ≡ values_of (whole g.sizes h w)
-    same_values = ap values_of f.but.same
+  module _ {b₁ : Row} (q : Sorts s.scratch.buffer b₁ part) where
+    pub sorted_simplifiable : Simplifiable s.trail b₁
+    sorted_simplifiable = rw (q.items, st.sized.values) (sort_every (λ x. x < 2 * s.config.vars) part range)
 
     -- and simplified there
-    module _ (ok : h.ok ≡ true) {w₂ : List ℕ} {r : Kept} (k : Simplified g.sizes h w₁ w₂ (length part) r) where
-      both : But g.sizes h w₂ (whole g.sizes h w)
-      both = but_trans f.but k.but
+    module _ (ok : s.ok ≡ true) {b₂ : Row} {r : Bool} (k : Simplified s.trail b₁ b₂ r) where
+      sized : Sized (with_row s b₂)
+      sized = row_sized s b₂ st.sized (k.cells ∙ q.cells)
 
-      same_state : state_at g h w₂ ≡ state_at g h w
-      same_state = ap (state_of h) both.same
+      pub adds_dropped : r ≡ false → Adds s (with_row s b₂) part Answer.Taken
+      adds_dropped e =
+          let d : simplify s.trail.vars.values undef_lit [] (sort part) ≡ none = rw (q.items, e) at k.outcome in
+          finish (with_row s b₂) Answer.Taken (record { state = state_at s; answer = 1 }) (add_open (config_of s.config) (state_at s) part ok none d) refl sized (row_idle s b₂ st.idle) refl refl
 
-      pub simplified_idle : Idle g.sizes.vars (whole g.sizes h w₂)
-      simplified_idle =
-          subst (λ (x : Whole). Idle g.sizes.vars x) (sym both.same)
-          (record { marks = st.idle.marks; final = st.idle.final; pushed = st.idle.pushed; nodes = st.idle.nodes })
+      -- some literals are kept
+      module _ (e : r ≡ true) where
+        is_left : simplify s.trail.vars.values undef_lit [] (sort part) ≡ some b₂.items
+        is_left = rw (q.items, e) at k.outcome
 
-      pub taken_dropped : r ≡ Kept.Dropped → Has g h w₂ (add_clause (config_of g) (state_at g h w) part).state × (1 ≡ (add_clause (config_of g) (state_at g h w) part).answer)
-      taken_dropped e =
-          let d : Simplified g.sizes h w₁ w₂ (length part) Kept.Dropped = rw e at k in
-          let q : simplify (values_of (whole g.sizes h w)) undef_lit [] (sort part) ≡ none = rw (same_values, f.front) at d.outcome in
-          finish h 1 w₂ (record { state = state_at g h w; answer = 1 }) (add_dropped (config_of g) (state_at g h w) part ok q) both.rep simplified_idle same_state refl
+        residue : Residue s.trail.vars.values part b₂.items
+        residue = residue_of (reduced s.config.vars s.trail.vars.values part small range) is_left
 
-      -- j literals are kept
-      module _ (j : ℕ) (e : r ≡ Kept.Some j) where
-        kept : Simplified g.sizes h w₁ w₂ (length part) (Kept.Some j)
-        kept = rw e at k
+        inside : (i : ℕ) → i < length b₂.items → get_or b₂.items i 0 < 2 * s.config.vars
+        inside i l = let m = get_or_in b₂.items i 0 l in range (get_or b₂.items i 0) (residue.among (get_or b₂.items i 0) m)
 
-        is_left : simplify (values_of (whole g.sizes h w)) undef_lit [] (sort part) ≡ some (take j (buffer_of g.sizes h w₂))
-        is_left = rw (same_values, f.front) at kept.outcome.0
-
-        residue : Residue (values_of (whole g.sizes h w)) part (take j (buffer_of g.sizes h w₂))
-        residue = residue_of (reduced g.sizes.vars (values_of (whole g.sizes h w)) part small range) is_left
-
-        inside : (i : ℕ) → i < j → get_or (buffer_of g.sizes h w₂) i 0 < 2 * g.sizes.vars
-        inside i l =
-            range (get_or (buffer_of g.sizes h w₂) i 0)
-            (residue.among (get_or (buffer_of g.sizes h w₂) i 0)
-            (get_or_in_take (buffer_of g.sizes h w₂) j i 0 l (omega (arith, l, kept.outcome.1, fits, but_length both.rep))))
-
-        pub kept_takeable : Takeable g.sizes h (whole g.sizes h w₂) j
-        kept_takeable =
+        pub left_takeable : Takeable (with_row s b₂)
+        left_takeable =
             record {
-              cells = omega (arith, kept.outcome.1);
+              sized = sized;
+              idle = row_idle s b₂ st.idle;
               low = inside;
               unit = λ z.
-                  let p = get_or (buffer_of g.sizes h w₂) 0 0 in
-                  let m = get_or_in_take (buffer_of g.sizes h w₂) j 0 0 (omega (arith, z)) (omega (arith, st.rep.room.some, but_length both.rep)) in
-                  omega (arith, trail_room st.formed.vars p (inside 0 (omega (arith, z))) (left_unset st.formed part range residue p m), assigned_counted st.rep);
+                  let p = get_or b₂.items 0 0 in
+                  let m = get_or_in b₂.items 0 0 (omega (arith, z)) in
+                  trail_room st.formed.vars p (inside 0 (omega (arith, z))) (left_unset st.formed part range residue p m);
             }
 
-        pub taken_kept : {w₃ : List ℕ} {t : Taken} → Took g h w₂ w₃ j t
-            → Has g t.head w₃ (add_clause (config_of g) (state_at g h w) part).state × (t.answer ≡ (add_clause (config_of g) (state_at g h w) part).answer)
-        taken_kept {w₃} {t} q =
-            finish t.head t.answer w₃ (add_kept (config_of g) (state_at g h w₂) (take j (buffer_of g.sizes h w₂)))
-            (add_left (config_of g) (state_at g h w) part (take j (buffer_of g.sizes h w₂)) ok is_left ∙ ap (λ (s : State). add_kept (config_of g) s (take j (buffer_of g.sizes h w₂))) (sym same_state))
-            q.rep q.idle q.state q.answer
+        pub adds_left : {s' : State} {a : Answer} → Took (with_row s b₂) s' a → Adds s s' part a
+        adds_left {s'} {a} t =
+            finish s' a (add_kept (config_of s.config) (state_at s) b₂.items) (add_open (config_of s.config) (state_at s) part ok (some b₂.items) is_left) t.config t.sized t.idle t.state t.answer

@@ -1,5 +1,4 @@
 pub mod Adding
-pub mod Buffer
 pub mod Formed
 pub mod Simplifying
 pub mod Sorting

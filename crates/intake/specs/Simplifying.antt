@@ -1,214 +1,132 @@
--- What a sorted buffer keeps, read and written in place.
-use Rattle.std.specs.Prelude.{ℕ, suc, ◌+◌, ◌-◌, ◌*◌, ◌≤◌, ◌<◌, ◌≡◌, Bool, ◌||◌, get_or, set, take}
-use Rattle.std.proofs.Common.{arith, add-one, subst, ◌∙◌, get_or-set_other, get_or-take, drop-cons, take-suc-set}
-use Rattle.std.proofs.Math.Path.{refl, sym, ap}
-use Rattle.std.proofs.Math.Bool.{true, false}
-use mathlib.Core.List.{List, [], ◌∷◌, ◌++◌}
-use Rattle.std.specs.Prelude.{None as none, Some as some}
-use Rattle.std.proofs.Math.ListN.{length, drop}
-use Rattle.std.proofs.Math.Seq.{length-take-le, drop-length}
-use Rattle.std.proofs.Math.Dec.{eqb}
-use borrow.Author.Tests.{eq-eqb, ne_eqb}
+-- What a sorted list of literals keeps, read and written in place.
+use Rattle.std.specs.Prelude.{ℕ, suc, ◌+◌, ◌*◌, ◌≤◌, ◌<◌, ◌≡◌, refl, Bool, true, false, ◌||◌, List, [], ◌∷◌, ◌++◌, length, get_or, set, take, drop, eqb, Option, None as none, Some as some}
+use Rattle.std.proofs.Common.{arith, add-one, sym, ap, ◌∙◌, eq-eqb, ne_eqb, length-set, drop-cons, drop-set-lt}
+use Rattle.std.proofs.Math.Seq.{drop-length, take-suc-set}
 use Rattle.model.specs.Lit.{neg, undef_lit, value_lit, is_true, is_false}
 use Rattle.model.specs.Intake.{simplify}
-use Rattle.clause.specs.declared.Lit.{Lit}
-use Rattle.scratch.specs.View.{buffered}
-use Rattle.state.specs.declared.Sizes.{Sizes}
-use Rattle.state.specs.declared.Header.{Header}
-use Rattle.state.specs.View.{Whole, whole, with_scratch, Rep, Holds}
-use Rattle.intake.specs.declared.Keeping.{Keeping}
-use Rattle.intake.specs.declared.Judged.{Judged}
-use Rattle.intake.specs.declared.Kept.{Kept}
-use Rattle.intake.specs.Buffer.{buffer_of, But, but_start, but_trans, but_length, but_set, buffer_set}
-
-abbrev pub values_of : Whole → List ℕ
-values_of x = x.assignment.vars.values
+use Rattle.lawbase.specs.Basics.{Every}
+use Rattle.assign.proofs.Lists.{get_or_in, set_every}
+use Rattle.trail.specs.View.{Assignment}
+use Rattle.scratch.specs.Row.{Row, put}
+use Rattle.intake.specs.declared.Turn.{Turn}
 
 -- ---- one literal
+
+-- what the definition goes on with after literal l
+abbrev pub after : List ℕ → ℕ → ℕ → List ℕ → List ℕ → Turn → Option (List ℕ)
+after values l last kept ls Turn.Drops = none
+after values l last kept ls Turn.Goes = simplify values last kept ls
+after values l last kept ls Turn.Stays = simplify values l (kept ++ (l ∷ [])) ls
+
+-- the literal is of a variable
+abbrev pub Judgeable : Assignment → ℕ → Type 0
+Judgeable a l = l < 2 * length a.vars.values
+
+-- what the definition does with literal l, with any literals kept before it and any to come
+pub record Turned (a : Assignment) (l last : ℕ) (r : Turn) : Type 0 where
+  pub next : (kept ls : List ℕ) → simplify a.vars.values last kept (l ∷ ls) ≡ after a.vars.values l last kept ls r
 
 or_second : (a b : Bool) → b ≡ true → (a || b) ≡ true
 or_second true b e = refl
 or_second false b e = e
 
-module _ (values : List ℕ) (last : ℕ) (kept : List ℕ) (l : ℕ) (ls : List ℕ) where
-  pub simplify_true : value_lit values l ≡ 0 → simplify values last kept (l ∷ ls) ≡ none
+module _ (a : Assignment) (l last : ℕ) where
+  pub turned_true : value_lit a.vars.values l ≡ 0 → Turned a l last Turn.Drops
   unfolding simplify
-  simplify_true e = let t : is_true values l ≡ true = eq-eqb (value_lit values l) 0 e in rw (t, simplify)
+  turned_true e = record { next = λ kept ls. let t : is_true a.vars.values l ≡ true = eq-eqb (value_lit a.vars.values l) 0 e in rw (t, simplify) }
 
-  pub simplify_opposite : l ≡ neg last → simplify values last kept (l ∷ ls) ≡ none
+  pub turned_opposite : l ≡ neg last → Turned a l last Turn.Drops
   unfolding simplify
-  simplify_opposite e =
-      let t : (is_true values l || eqb l (neg last)) ≡ true = or_second (is_true values l) (eqb l (neg last)) (eq-eqb l (neg last) e) in rw (t, simplify)
-
-  module _ (n : value_lit values l ≡ 0 → ⊥) (m : l ≡ neg last → ⊥) where
-    stays : (is_true values l || eqb l (neg last)) ≡ false
-    stays =
-        let a : is_true values l ≡ false = ne_eqb (value_lit values l) 0 n in
-        let b : eqb l (neg last) ≡ false = ne_eqb l (neg last) m in
-        rw (a, b)
-
-    pub simplify_false : value_lit values l ≡ 1 → simplify values last kept (l ∷ ls) ≡ simplify values last kept ls
-    unfolding simplify
-    simplify_false e =
-        let t : is_false values l ≡ true = eq-eqb (value_lit values l) 1 e in
-        rw (stays, simplify, t)
-
-    pub simplify_again : l ≡ last → simplify values last kept (l ∷ ls) ≡ simplify values last kept ls
-    unfolding simplify
-    simplify_again e =
-        let t : (is_false values l || eqb l last) ≡ true = or_second (is_false values l) (eqb l last) (eq-eqb l last e) in
-        rw (stays, simplify, t)
-
-    pub simplify_keep : (value_lit values l ≡ 1 → ⊥) → (l ≡ last → ⊥) → simplify values last kept (l ∷ ls) ≡ simplify values l (kept ++ (l ∷ [])) ls
-    unfolding simplify
-    simplify_keep f g =
-        let a : is_false values l ≡ false = ne_eqb (value_lit values l) 1 f in
-        let b : eqb l last ≡ false = ne_eqb l last g in
-        let t : (is_false values l || eqb l last) ≡ false = rw (a, b) in
-        rw (stays, simplify, t)
-
--- ---- one turn
-
--- the literals kept are the first of b, the next one to be judged stands at i, and b' is the buffer after that
-pub record Onward (values b b' : List ℕ) (i : ℕ) (f f' : Keeping) : Type 0 where
-  pub next : (ls : List ℕ) → simplify values f.last.0 (take f.count b) (get_or b i 0 ∷ ls) ≡ simplify values f'.last.0 (take f'.count b') ls
-  pub inside : f'.count ≤ suc i
-  pub rest : (k : ℕ) → i < k → get_or b' k 0 ≡ get_or b k 0
-
-abbrev pub Verdict : List ℕ → List ℕ → List ℕ → ℕ → Keeping → Judged → Type 0
-Verdict values b b' i f Judged.Dropped = (ls : List ℕ) → simplify values f.last.0 (take f.count b) (get_or b i 0 ∷ ls) ≡ none
-Verdict values b b' i f (Judged.On f') = Onward values b b' i f f'
-
-pub record Turned (d : Sizes) (h : Header) (w w' : List ℕ) (i : ℕ) (f : Keeping) (r : Judged) : Type 0 where
-  pub but : But d h w' (whole d h w)
-  pub verdict : Verdict (values_of (whole d h w)) (buffer_of d h w) (buffer_of d h w') i f r
-
--- the literal p at place i, its value v and the negation m of the last literal kept, as they are read
-module _ (d : Sizes) (h : Header) (w : List ℕ) (rep : Rep d h w) (i : ℕ) (f : Keeping) (p : Lit) (v m : ℕ) (ep : p.0 ≡ get_or (buffer_of d h w) i 0)
-    (ev : v ≡ value_lit (values_of (whole d h w)) p.0) (em : m ≡ neg f.last.0) where
-  same_value : value_lit (values_of (whole d h w)) (get_or (buffer_of d h w) i 0) ≡ v
-  same_value = rw (← ep) (sym ev)
-
-  pub turned_true : v ≡ 0 → Turned d h w w i f Judged.Dropped
-  turned_true e =
-      record {
-        but = but_start rep;
-        verdict = λ ls. simplify_true (values_of (whole d h w)) f.last.0 (take f.count (buffer_of d h w)) (get_or (buffer_of d h w) i 0) ls (same_value ∙ e);
-      }
-
-  pub turned_opposite : p.0 ≡ m → Turned d h w w i f Judged.Dropped
   turned_opposite e =
-      record {
-        but = but_start rep;
-        verdict = λ ls. simplify_opposite (values_of (whole d h w)) f.last.0 (take f.count (buffer_of d h w)) (get_or (buffer_of d h w) i 0) ls (sym ep ∙ e ∙ em);
-      }
+      let t : (is_true a.vars.values l || eqb l (neg last)) ≡ true = or_second (is_true a.vars.values l) (eqb l (neg last)) (eq-eqb l (neg last) e) in
+      record { next = λ kept ls. rw (t, simplify) }
 
-  module _ (n : v ≡ 0 → ⊥) (o : p.0 ≡ m → ⊥) (inside : f.count ≤ i) where
-    not_true : value_lit (values_of (whole d h w)) (get_or (buffer_of d h w) i 0) ≡ 0 → ⊥
-    not_true e = n (sym same_value ∙ e)
+  module _ (n : value_lit a.vars.values l ≡ 0 → ⊥) (m : l ≡ neg last → ⊥) where
+    stays : (is_true a.vars.values l || eqb l (neg last)) ≡ false
+    stays =
+        let t : is_true a.vars.values l ≡ false = ne_eqb (value_lit a.vars.values l) 0 n in
+        let o : eqb l (neg last) ≡ false = ne_eqb l (neg last) m in
+        rw (t, o)
 
-    not_opposite : get_or (buffer_of d h w) i 0 ≡ neg f.last.0 → ⊥
-    not_opposite e = o (ep ∙ e ∙ sym em)
-
-    pub turned_false : v ≡ 1 → Turned d h w w i f (Judged.On f)
+    pub turned_false : value_lit a.vars.values l ≡ 1 → Turned a l last Turn.Goes
+    unfolding simplify
     turned_false e =
-        record {
-          but = but_start rep;
-          verdict = record {
-            next = λ ls. simplify_false (values_of (whole d h w)) f.last.0 (take f.count (buffer_of d h w)) (get_or (buffer_of d h w) i 0) ls not_true not_opposite (same_value ∙ e);
-            inside = omega arith;
-            rest = λ k _. refl;
-          };
-        }
+        let t : is_false a.vars.values l ≡ true = eq-eqb (value_lit a.vars.values l) 1 e in
+        record { next = λ kept ls. rw (stays, simplify, t) }
 
-    pub turned_again : p.0 ≡ f.last.0 → Turned d h w w i f (Judged.On f)
+    pub turned_again : l ≡ last → Turned a l last Turn.Goes
+    unfolding simplify
     turned_again e =
-        record {
-          but = but_start rep;
-          verdict = record {
-            next = λ ls. simplify_again (values_of (whole d h w)) f.last.0 (take f.count (buffer_of d h w)) (get_or (buffer_of d h w) i 0) ls not_true not_opposite (sym ep ∙ e);
-            inside = omega arith;
-            rest = λ k _. refl;
-          };
-        }
+        let t : (is_false a.vars.values l || eqb l last) ≡ true = or_second (is_false a.vars.values l) (eqb l last) (eq-eqb l last e) in
+        record { next = λ kept ls. rw (stays, simplify, t) }
 
-    pub turned_keep : {w' : List ℕ} → (v ≡ 1 → ⊥) → (p.0 ≡ f.last.0 → ⊥) → i < 2 * d.vars
-        → Holds d h w' (with_scratch (whole d h w) (buffered (whole d h w).scratch f.count p.0))
-        → Turned d h w w' i f (Judged.On (record { last = p; count = f.count + 1 }))
-    turned_keep {w'} e g b k =
-        let s : buffer_of d h w' ≡ set (buffer_of d h w) f.count p.0 = buffer_set w f.count p.0 k in
-        let t : take (f.count + 1) (buffer_of d h w') ≡ take f.count (buffer_of d h w) ++ (p.0 ∷ []) =
-        rw (s, add-one) (take-suc-set (buffer_of d h w) f.count p.0 (omega (arith, but_length rep))) in
-        record {
-          but = but_set w f.count p.0 k (but_start rep);
-          verdict = record {
-            next = λ ls. rw (t, ep) (simplify_keep (values_of (whole d h w)) f.last.0 (take f.count (buffer_of d h w)) (get_or (buffer_of d h w) i 0) ls not_true not_opposite
-                (λ z. e (sym same_value ∙ z)) (λ z. g (ep ∙ z)));
-            inside = omega arith;
-            rest = λ j q. rw s (get_or-set_other (buffer_of d h w) f.count j p.0 0 (λ z. omega (arith, z, q, inside)));
-          };
-        }
+    pub turned_stays : (value_lit a.vars.values l ≡ 1 → ⊥) → (l ≡ last → ⊥) → Turned a l last Turn.Stays
+    unfolding simplify
+    turned_stays f g =
+        let t : is_false a.vars.values l ≡ false = ne_eqb (value_lit a.vars.values l) 1 f in
+        let o : eqb l last ≡ false = ne_eqb l last g in
+        let b : (is_false a.vars.values l || eqb l last) ≡ false = rw (t, o) in
+        record { next = λ kept ls. rw (stays, simplify, b) }
 
 -- ---- all of them
 
-pub record Simplifying (d : Sizes) (h : Header) (w w' : List ℕ) (n i : ℕ) (f : Keeping) : Type 0 where
-  pub but : But d h w' (whole d h w)
-  -- what is left gives what the whole gives
-  pub left : simplify (values_of (whole d h w)) f.last.0 (take f.count (buffer_of d h w')) (drop i (take n (buffer_of d h w)))
-      ≡ simplify (values_of (whole d h w)) undef_lit [] (take n (buffer_of d h w))
-  pub inside : f.count ≤ i
-  pub rest : (k : ℕ) → i ≤ k → get_or (buffer_of d h w') k 0 ≡ get_or (buffer_of d h w) k 0
+-- each literal of the list is of a variable
+abbrev pub Simplifiable : Assignment → Row → Type 0
+Simplifiable a b = Every (λ l. l < 2 * length a.vars.values) b.items
 
-abbrev pub Outcome : List ℕ → List ℕ → List ℕ → ℕ → Kept → Type 0
-Outcome values b b' n Kept.Dropped = simplify values undef_lit [] (take n b) ≡ none
-Outcome values b b' n (Kept.Some j) = (simplify values undef_lit [] (take n b) ≡ some (take j b')) × (j ≤ n)
+-- the literals that are left, where the clause is not dropped
+abbrev pub left_in : Bool → List ℕ → Option (List ℕ)
+left_in true l = some l
+left_in false l = none
 
--- what is left of the buffer's first n literals
-pub record Simplified (d : Sizes) (h : Header) (w w' : List ℕ) (n : ℕ) (r : Kept) : Type 0 where
-  pub but : But d h w' (whole d h w)
-  pub outcome : Outcome (values_of (whole d h w)) (buffer_of d h w) (buffer_of d h w') n r
+-- the list in b' is what the definition leaves of that in b
+pub record Simplified (a : Assignment) (b b' : Row) (r : Bool) : Type 0 where
+  pub outcome : simplify a.vars.values undef_lit [] b.items ≡ left_in r b'.items
+  pub cells : length b'.cells ≡ length b.cells
 
-module _ (d : Sizes) (h : Header) (w : List ℕ) (rep : Rep d h w) (n : ℕ) (fits : n ≤ 2 * d.vars) where
-  pub simplifying_starts : (p : Lit) → p.0 ≡ undef_lit → Simplifying d h w w n 0 (record { last = p; count = 0 })
-  simplifying_starts p e = record { but = but_start rep; left = rw e refl; inside = omega arith; rest = λ k _. refl }
+-- the first literals of b, as many as are kept, and those from i on give what b₀ gives
+pub record Simplifying (a : Assignment) (b₀ b : Row) (i kept last : ℕ) : Type 0 where
+  pub left : simplify a.vars.values last (take kept b.items) (drop i b.items) ≡ simplify a.vars.values undef_lit [] b₀.items
+  pub inside : kept ≤ i
+  pub low : Simplifiable a b
+  pub size : length b.items ≡ length b₀.items
+  pub cells : length b.cells ≡ length b₀.cells
 
-  module _ {w₁ : List ℕ} {i : ℕ} {f : Keeping} (s : Simplifying d h w w₁ n i f) where
-    same_values : values_of (whole d h w₁) ≡ values_of (whole d h w)
-    same_values = ap values_of s.but.same
+pub simplifying_starts : (a : Assignment) (b : Row) (last : ℕ) → last ≡ undef_lit → Simplifiable a b → Simplifying a b b 0 0 last
+simplifying_starts a b last e low = record { left = rw e refl; inside = omega arith; low = low; size = refl; cells = refl }
 
-    pub simplifying_low : ((k : ℕ) → k < n → get_or (buffer_of d h w) k 0 < 2 * d.vars) → i < n → get_or (buffer_of d h w₁) i 0 < 2 * d.vars
-    simplifying_low low g = rw (s.rest i (omega arith)) (low i g)
-
+module _ {a : Assignment} {b₀ b : Row} {i kept last : ℕ} (s : Simplifying a b₀ b i kept last) where
+  module _ (g : i < length b.items) (l : ℕ) (e : l ≡ get_or b.items i 0) where
     -- the rest starts with the literal at i
-    at_hand : i < n → drop i (take n (buffer_of d h w)) ≡ get_or (buffer_of d h w₁) i 0 ∷ drop (suc i) (take n (buffer_of d h w))
-    at_hand g =
-        let z : length (take n (buffer_of d h w)) ≡ n = length-take-le n (buffer_of d h w) (omega (arith, but_length rep)) in
-        drop-cons (take n (buffer_of d h w)) i 0 (omega (arith, z))
-        ∙ ap (λ (l : ℕ). l ∷ drop (suc i) (take n (buffer_of d h w))) (get_or-take n (buffer_of d h w) i 0 g ∙ sym (s.rest i (omega arith)))
+    at_hand : drop i b.items ≡ l ∷ drop (suc i) b.items
+    at_hand = drop-cons b.items i 0 g ∙ ap (λ (x : ℕ). x ∷ drop (suc i) b.items) (sym e)
 
-    now_left : i < n → simplify (values_of (whole d h w₁)) f.last.0 (take f.count (buffer_of d h w₁)) (get_or (buffer_of d h w₁) i 0 ∷ drop (suc i) (take n (buffer_of d h w)))
-        ≡ simplify (values_of (whole d h w)) undef_lit [] (take n (buffer_of d h w))
-    now_left g = rw (same_values, ← at_hand g) s.left
+    pub simplifying_judgeable : Judgeable a l
+    simplifying_judgeable = rw e (s.low (get_or b.items i 0) (get_or_in b.items i 0 g))
 
-    pub simplifying_drops : {w₂ : List ℕ} {r : Judged} → i < n → r ≡ Judged.Dropped → Turned d h w₁ w₂ i f r → Simplified d h w w₂ n Kept.Dropped
-    simplifying_drops {w₂} g e t' =
-        let t : Turned d h w₁ w₂ i f Judged.Dropped = rw e at t' in
-        record { but = but_trans s.but t.but; outcome = sym (now_left g) ∙ t.verdict (drop (suc i) (take n (buffer_of d h w))) }
+    turned : {r : Turn} → Turned a l last r → after a.vars.values l last (take kept b.items) (drop (suc i) b.items) r ≡ simplify a.vars.values undef_lit [] b₀.items
+    turned t = sym (t.next (take kept b.items) (drop (suc i) b.items)) ∙ ap (λ (ls : List ℕ). simplify a.vars.values last (take kept b.items) ls) (sym at_hand) ∙ s.left
 
-    pub simplifying_turns : {w₂ : List ℕ} {f' : Keeping} {r : Judged} → i < n → r ≡ Judged.On f' → Turned d h w₁ w₂ i f r → Simplifying d h w w₂ n (i + 1) f'
-    simplifying_turns {w₂} {f'} g e t' =
-        let t : Turned d h w₁ w₂ i f (Judged.On f') = rw e at t' in
+    pub simplifying_drops : Turned a l last Turn.Drops → Simplified a b₀ b false
+    simplifying_drops t = record { outcome = sym (turned t); cells = s.cells }
+
+    pub simplifying_goes : Turned a l last Turn.Goes → Simplifying a b₀ b (i + 1) kept last
+    simplifying_goes t = record { left = rw add-one (turned t); inside = omega (arith, s.inside); low = s.low; size = s.size; cells = s.cells }
+
+    pub simplifying_stays : Turned a l last Turn.Stays → Simplifying a b₀ (put b kept l) (i + 1) (kept + 1) l
+    simplifying_stays t =
+        let f : take (suc kept) (set b.items kept l) ≡ take kept b.items ++ (l ∷ []) = take-suc-set b.items kept l (omega (arith, s.inside)) in
+        let r : drop (suc i) (set b.items kept l) ≡ drop (suc i) b.items = drop-set-lt (suc i) b.items kept l (omega (arith, s.inside)) in
         record {
-          but = but_trans s.but t.but;
-          left = rw add-one (subst (λ (vs : List ℕ). simplify vs f'.last.0 (take f'.count (buffer_of d h w₂)) (drop (suc i) (take n (buffer_of d h w))) ≡ simplify (values_of (whole d h w)) undef_lit [] (take n (buffer_of d h w))) same_values
-              (sym (t.verdict.next (drop (suc i) (take n (buffer_of d h w)))) ∙ now_left g));
-          inside = omega (arith, t.verdict.inside);
-          rest = λ k q. t.verdict.rest k (omega (arith, q)) ∙ s.rest k (omega (arith, q));
+          left = rw (add-one kept, add-one i, f, r) (turned t);
+          inside = omega (arith, s.inside);
+          low = set_every (λ x. x < 2 * length a.vars.values) b.items kept l simplifying_judgeable s.low;
+          size = length-set b.items kept l ∙ s.size;
+          cells = length-set b.cells kept l ∙ s.cells;
         }
 
-    pub simplifying_ends : i ≡ n → Simplified d h w w₁ n (Kept.Some f.count)
-    unfolding simplify
-    simplifying_ends e =
-        let z : length (take n (buffer_of d h w)) ≡ n = length-take-le n (buffer_of d h w) (omega (arith, but_length rep)) in
-        let y : drop i (take n (buffer_of d h w)) ≡ [] = ap (λ (k : ℕ). drop k (take n (buffer_of d h w))) (e ∙ sym z) ∙ drop-length (take n (buffer_of d h w)) in
-        record { but = s.but; outcome = (sym s.left ∙ rw y refl, omega (arith, s.inside)) }
+  pub simplifying_ends : i ≡ length b.items → Simplified a b₀ (record { items = take kept b.items; cells = b.cells }) true
+  unfolding simplify
+  simplifying_ends e =
+      let y : drop i b.items ≡ [] = ap (λ (k : ℕ). drop k b.items) e ∙ drop-length b.items in
+      record { outcome = sym s.left ∙ rw y refl; cells = s.cells }

@@ -1,129 +1,189 @@
 -- What is kept of a clause is taken: no literal, one, or a clause to store.
-use Rattle.std.specs.Prelude.{ℕ, ◌+◌, ◌*◌, ◌≤◌, ◌<◌, ◌≡◌, Bool, true, ◌&&◌, length, get_or, ltb, leb}
-use Rattle.std.proofs.Common.{arith, sym, ◌∙◌, take-suc, length-take-le}
-use Rattle.std.proofs.Math.Path.{refl, ap}
-use Rattle.std.proofs.Math.Bool.{false}
-use mathlib.Core.List.{List, [], ◌∷◌}
-use Rattle.std.specs.Prelude.{None as none, Some as some}
-use Rattle.std.proofs.Math.ListN.{take}
+use Rattle.std.specs.Prelude.{ℕ, ◌+◌, ◌*◌, ◌≤◌, ◌<◌, ◌≡◌, refl, Bool, true, false, ◌&&◌, List, [], ◌∷◌, length, get_or, replicate, ltb, leb}
+use Rattle.std.proofs.Common.{arith, sym, ap, ◌∙◌, length-set}
 use Rattle.model.specs.Lit.{no_reason}
 use Rattle.model.specs.Script as Script
-use Rattle.model.specs.State as state
-use Rattle.model.specs.State.{State}
+use Rattle.model.specs.State as model
 use Rattle.model.specs.Store.{stored_literals, has_room, attach_clause}
+use Rattle.model.specs.Trail.{unchecked_enqueue}
 use Rattle.model.specs.Intake as intake
 use Rattle.model.specs.Intake.{add_kept}
 use Rattle.watching.proofs.Store.{room}
-use Rattle.trail.specs.View.{enqueued}
-use Rattle.trail.specs.declared.TrailHead.{TrailHead}
-use Rattle.state.specs.declared.Sizes.{Sizes}
-use Rattle.state.specs.declared.Header.{Header}
-use Rattle.state.specs.declared.Config.{Config}
-use Rattle.state.specs.View.{Whole, whole, state_of, with_assignment, Rep, Holds}
-use Rattle.state.specs.Laws.{with_trail}
-use Rattle.state.specs.AssignmentLaws.{with_ok, heads_hold, after_enqueue}
-use Rattle.state.specs.Still.{config_of, state_at, Idle}
-use Rattle.intake.specs.declared.Taken.{Taken}
-use Rattle.intake.specs.Buffer.{buffer_of, but_length}
-use Rattle.intake.specs.Storing.{Storing, Added}
+use Rattle.store.specs.Laws.{room_is}
+use Rattle.trail.specs.View.{Assignment, enqueued}
+use Rattle.state.specs.declared.State.{State}
+use Rattle.state.specs.Still.{config_of, state_at, Sized, Idle}
+use Rattle.intake.specs.declared.Answer.{Answer}
+use Rattle.intake.specs.Storing.{Storable, Added}
 
--- ---- the literals kept
+-- the answer's cell
+abbrev pub answer_of : Answer → ℕ
+answer_of Answer.NoModel = 0
+answer_of Answer.Taken = 1
+answer_of Answer.NoStorage = 2
 
--- the buffer's first n literals are in range, and where there is one, the trail has room for it
-pub record Takeable (d : Sizes) (h : Header) (x : Whole) (n : ℕ) : Type 0 where
-  pub cells : n ≤ 2 * d.vars
-  pub low : (k : ℕ) → k < n → get_or x.scratch.buffer k 0 < 2 * d.vars
-  pub unit : n ≡ 1 → h.trail.assigned < d.vars
+-- the buffer's literals are of variables, and where there is one, the trail has room for it
+pub record Takeable (s : State) : Type 0 where
+  pub sized : Sized s
+  pub idle : Idle s
+  pub low : (k : ℕ) → k < length s.scratch.buffer.items → get_or s.scratch.buffer.items k 0 < 2 * s.config.vars
+  pub unit : length s.scratch.buffer.items ≡ 1 → length s.trail.vars.trail < s.config.vars
 
--- the slice holds what the definition makes of them, and nothing is half done
-pub record Took (g : Config) (h : Header) (w w' : List ℕ) (n : ℕ) (r : Taken) : Type 0 where
-  pub rep : Rep g.sizes r.head w'
-  pub idle : Idle g.sizes.vars (whole g.sizes r.head w')
-  pub state : state_at g r.head w' ≡ (add_kept (config_of g) (state_at g h w) (take n (buffer_of g.sizes h w))).state
-  pub answer : r.answer ≡ (add_kept (config_of g) (state_at g h w) (take n (buffer_of g.sizes h w))).answer
+abbrev pub kept_in : State → intake.Taken
+kept_in s = add_kept (config_of s.config) (state_at s) s.scratch.buffer.items
 
-abbrev room_for : Bool → Script.Config → State → List ℕ → intake.Taken
-room_for b cfg s l =
+-- the blocks hold what the definition makes of the buffer's literals, and nothing is half done
+pub record Took (s s' : State) (r : Answer) : Type 0 where
+  pub config : s'.config ≡ s.config
+  pub sized : Sized s'
+  pub idle : Idle s'
+  pub state : state_at s' ≡ (kept_in s).state
+  pub answer : answer_of r ≡ (kept_in s).answer
+
+abbrev room_for : Bool → model.State → List ℕ → intake.Taken
+room_for b s l =
     elim b [
-      | true ↦ record { state = state.with_store s (attach_clause s.store l); answer = 1 }
+      | true ↦ record { state = model.with_store s (attach_clause s.store l); answer = 1 }
       | false ↦ record { state = s; answer = 2 }
     ]
 
-kept_long : (cfg : Script.Config) (s : State) (l : List ℕ) (b : Bool) → 2 ≤ length l → has_room cfg s.store l ≡ b → add_kept cfg s l ≡ room_for b cfg s l
+kept_none : (cfg : Script.Config) (s : model.State) (l : List ℕ) → length l ≡ 0 → add_kept cfg s l ≡ record { state = model.with_ok s false; answer = 0 }
+unfolding add_kept
+kept_none cfg s [] e = refl
+kept_none cfg s (x ∷ l) e = absurd (omega arith)
+
+kept_one : (cfg : Script.Config) (s : model.State) (l : List ℕ) → length l ≡ 1
+    → add_kept cfg s l ≡ record { state = model.with_vars s (unchecked_enqueue s.vars (get_or l 0 0) no_reason); answer = 1 }
+unfolding add_kept
+kept_one cfg s [] e = absurd (omega arith)
+kept_one cfg s (x ∷ []) e = refl
+kept_one cfg s (x ∷ y ∷ l) e = absurd (omega arith)
+
+kept_long : (cfg : Script.Config) (s : model.State) (l : List ℕ) (b : Bool) → 2 ≤ length l → has_room cfg s.store l ≡ b → add_kept cfg s l ≡ room_for b s l
 unfolding add_kept
 kept_long cfg s [] b g e = absurd (omega arith)
 kept_long cfg s (x ∷ []) b g e = absurd (omega arith)
 kept_long cfg s (x ∷ y ∷ l) b g e = rw (e, add_kept)
 
-module _ (g : Config) (h : Header) (w : List ℕ) (rep : Rep g.sizes h w) (idle : Idle g.sizes.vars (whole g.sizes h w)) (n : ℕ) (t : Takeable g.sizes h (whole g.sizes h w) n) where
+-- with a as the trail
+abbrev pub with_trail : State → Assignment → State
+with_trail s a =
+    record { config = s.config; trail = a; scratch = s.scratch; watches = s.watches; clauses = s.clauses; finals = s.finals; qhead = s.qhead; ok = s.ok }
+
+-- with `ok` as it says
+abbrev pub with_ok : State → Bool → State
+with_ok s b =
+    record { config = s.config; trail = s.trail; scratch = s.scratch; watches = s.watches; clauses = s.clauses; finals = s.finals; qhead = s.qhead; ok = b }
+
+module _ (s : State) (t : Takeable s) where
+  same_idle : (s' : State) → s'.config ≡ s.config → s'.scratch ≡ s.scratch → s'.finals ≡ s.finals → s'.clauses ≡ s.clauses → s'.watches ≡ s.watches → Idle s'
+  same_idle s' c x f k w = record { marks = rw (c, x) t.idle.marks; final = rw f t.idle.final; pushed = rw k t.idle.pushed; nodes = rw (k, w) t.idle.nodes }
+
   -- no literal
-  pub took_none : {r : Header} → n ≡ 0 → r ≡ with_ok h false → Took g h w w n (record { head = r; answer = 0 })
-  unfolding add_kept
-  took_none e q =
-      let k : Holds g.sizes (with_ok h false) w (whole g.sizes h w) = heads_hold h.qhead false (record { rep = rep; whole = refl }) in
-      rw (e, q)
-      (record {
-        rep = k.rep;
-        idle = rw k.whole idle;
-        state = ap (λ (y : Whole). state_of (with_ok h false) y) k.whole;
-        answer = refl;
-      })
+  pub took_none : length s.scratch.buffer.items ≡ 0 → Took s (with_ok s false) Answer.NoModel
+  took_none e =
+      let k = kept_none (config_of s.config) (state_at s) s.scratch.buffer.items e in
+      record {
+        config = refl;
+        sized =
+            record {
+              some = t.sized.some;
+              vars = t.sized.vars;
+              room = t.sized.room;
+              lit_room = t.sized.lit_room;
+              values = t.sized.values;
+              marks = t.sized.marks;
+              buffer = t.sized.buffer;
+              stack = t.sized.stack;
+              notes = t.sized.notes;
+              lists = t.sized.lists;
+              blockers = t.sized.blockers;
+              chains = t.sized.chains;
+              clauses = t.sized.clauses;
+              literals = t.sized.literals;
+              flags = t.sized.flags;
+              members = t.sized.members;
+            };
+        idle = same_idle (with_ok s false) refl refl refl refl refl;
+        state = rw k refl;
+        answer = rw k refl;
+      }
 
   -- one
-  one : n ≡ 1 → take n (buffer_of g.sizes h w) ≡ get_or (buffer_of g.sizes h w) 0 0 ∷ []
-  one e = rw e (take-suc (buffer_of g.sizes h w) 0 0 (omega (arith, but_length rep, rep.room.some)))
+  values_length : (p : ℕ) → length (enqueued s.trail p no_reason).vars.values ≡ length s.trail.vars.values
+  unfolding unchecked_enqueue
+  values_length p = rw length-set refl
 
-  pub took_unit : {r : Header} {w' : List ℕ} {v : TrailHead} (p : ℕ) → n ≡ 1 → p ≡ get_or (buffer_of g.sizes h w) 0 0
-      → Holds g.sizes r w' (with_assignment (whole g.sizes h w) (enqueued (whole g.sizes h w).assignment p no_reason)) → r ≡ with_trail h v
-      → Took g h w w' n (record { head = r; answer = 1 })
-  unfolding add_kept
-  took_unit {r} {w'} {v} p e q k f =
-      let c : take n (buffer_of g.sizes h w) ≡ p ∷ [] = one e ∙ ap (λ (l : ℕ). l ∷ []) (sym q) in
+  pub took_unit : (p : ℕ) → length s.scratch.buffer.items ≡ 1 → p ≡ get_or s.scratch.buffer.items 0 0 → Took s (with_trail s (enqueued s.trail p no_reason)) Answer.Taken
+  took_unit p e q =
+      let k = kept_one (config_of s.config) (state_at s) s.scratch.buffer.items e in
       record {
-        rep = k.rep;
-        idle = rw k.whole (record { marks = idle.marks; final = idle.final; pushed = idle.pushed; nodes = idle.nodes });
-        state = rw c (after_enqueue h (whole g.sizes h w) p no_reason k f);
-        answer = rw c refl;
+        config = refl;
+        sized =
+            record {
+              some = t.sized.some;
+              vars = t.sized.vars;
+              room = t.sized.room;
+              lit_room = t.sized.lit_room;
+              values = values_length p ∙ t.sized.values;
+              marks = t.sized.marks;
+              buffer = t.sized.buffer;
+              stack = t.sized.stack;
+              notes = t.sized.notes;
+              lists = t.sized.lists;
+              blockers = t.sized.blockers;
+              chains = t.sized.chains;
+              clauses = t.sized.clauses;
+              literals = t.sized.literals;
+              flags = t.sized.flags;
+              members = t.sized.members;
+            };
+        idle = same_idle (with_trail s (enqueued s.trail p no_reason)) refl refl refl refl refl;
+        state = rw (k, q) refl;
+        answer = rw k refl;
       }
 
   -- more
-  module _ (two : 2 ≤ n) (b : Bool)
-      (eb : b ≡ (ltb (length (whole g.sizes h w).clauses.clauses) g.sizes.room && leb (stored_literals (whole g.sizes h w).clauses.clauses + n) g.sizes.lit_room)) where
-    long : length (take n (buffer_of g.sizes h w)) ≡ n
-    long = length-take-le n (buffer_of g.sizes h w) (omega (arith, but_length rep, t.cells))
+  module _ (two : 2 ≤ length s.scratch.buffer.items) (n : ℕ) (en : n ≡ length s.scratch.buffer.items) (b : Bool)
+      (eb : b ≡ (ltb (length s.clauses.clauses) s.clauses.room && leb (stored_literals s.clauses.clauses + n) s.clauses.lit_room)) where
+    roomy : has_room (config_of s.config) (state_at s).store s.scratch.buffer.items ≡ b
+    roomy = room_is (config_of s.config) (state_at s).store s.clauses s.scratch.buffer.items refl (sym t.sized.clauses) (sym t.sized.literals) ∙ rw en at (sym eb)
 
-    roomy : has_room (config_of g) (state_at g h w).store (take n (buffer_of g.sizes h w)) ≡ b
-    unfolding has_room
-    roomy = rw long (sym eb)
+    kept_is : kept_in s ≡ room_for b (state_at s) s.scratch.buffer.items
+    kept_is = kept_long (config_of s.config) (state_at s) s.scratch.buffer.items b two roomy
 
-    kept_is : add_kept (config_of g) (state_at g h w) (take n (buffer_of g.sizes h w)) ≡ room_for b (config_of g) (state_at g h w) (take n (buffer_of g.sizes h w))
-    kept_is = kept_long (config_of g) (state_at g h w) (take n (buffer_of g.sizes h w)) b (rw long two) roomy
-
-    pub took_full : b ≡ false → Took g h w w n (record { head = h; answer = 2 })
+    pub took_full : b ≡ false → Took s s Answer.NoStorage
     took_full e =
         let k = rw e at kept_is in
-        record { rep = rep; idle = idle; state = rw k refl; answer = rw k refl }
+        record { config = refl; sized = t.sized; idle = t.idle; state = rw k refl; answer = rw k refl }
 
-    pub took_storing : b ≡ true → Storing g.sizes (whole g.sizes h w) n
-    took_storing e =
-        let r = room (config_of g) (state_at g h w).store (take n (buffer_of g.sizes h w)) (roomy ∙ e) in
+    pub took_storable : b ≡ true → Storable s
+    took_storable e =
+        let r = room (config_of s.config) (state_at s).store s.scratch.buffer.items (roomy ∙ e) in
         record {
-          fresh = record { under = idle.nodes };
-          none = idle.pushed;
+          sized = t.sized;
+          fresh = record { under = t.idle.nodes };
+          none = t.idle.pushed;
           room = r.clauses;
-          literals = omega (arith, r.literals, long);
+          literals = r.literals;
           two = two;
-          cells = t.cells;
           first = t.low 0 (omega arith);
           second = t.low 1 (omega arith);
         }
 
-    pub took_stored : {r : Header} {w' : List ℕ} → b ≡ true → Added g h r w w' n → Took g h w w' n (record { head = r; answer = 1 })
-    took_stored {r} {w'} e a =
+    pub took_stored : {s' : State} → b ≡ true → Added s s' → Took s s' Answer.Taken
+    took_stored {s'} e a =
         let k = rw e at kept_is in
         record {
-          rep = a.rep;
-          idle = record { marks = rw a.scratch idle.marks; final = rw a.final idle.final; pushed = a.none; nodes = a.fresh.under };
+          config = ap (λ (x : State). x.config) a.is;
+          sized = a.sized;
+          idle =
+              record {
+                marks = ap (λ (x : State). x.scratch.marks) a.is ∙ t.idle.marks ∙ ap (λ (x : State). replicate x.config.vars 0) (sym a.is);
+                final = ap (λ (x : State). x.finals.items) a.is ∙ t.idle.final;
+                pushed = ap (λ (x : State). x.clauses.pushed) a.is;
+                nodes = a.fresh.under;
+              };
           state = rw k a.state;
           answer = rw k refl;
         }

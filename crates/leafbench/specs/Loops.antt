@@ -1,205 +1,181 @@
 -- Laws of the loops.
-use Prim.Native.Nat.{ℕ, zero, suc, ◌+◌, ◌-◌, ◌*◌, ◌%◌, ◌≤◌, ◌<◌}
-use native.Mathlib.Omega.{arith}
-use Rattle.std.proofs.Common.{not-suc-le-zero, sym, subst, ◌∙◌, length-append, drop-cons}
+use Rattle.std.specs.Prelude.{ℕ, zero, suc, ◌+◌, ◌-◌, ◌*◌, ◌%◌, ◌≤◌, ◌<◌, ◌≡◌, refl, Bool, true, false, ◌&&◌, List, [], ◌∷◌, ◌++◌, length, get_or, set, drop, replicate, ltb, eqb}
+use Rattle.std.proofs.Common.{arith, ap, ap₂, not-suc-le-zero, sym, subst, ◌∙◌, length-append, drop-cons, lt-ltb, le-ltb, le-leb}
 use Rattle.std.proofs.Math.Nat.{mul-mod_right}
-use Rattle.std.specs.Prelude.{◌≡◌, Bool, ◌≢◌, set, drop, replicate, eqb}
-use Rattle.std.proofs.Math.Path.{refl, ap, ap₂}
-use Rattle.std.proofs.Math.Bool.{true, false}
-use mathlib.Core.List.{List, [], ◌∷◌, ◌++◌}
-use Rattle.std.proofs.Math.ListN.{length, get_or, take, length-take}
 use Rattle.std.proofs.lemmas.List.{get_or-replicate, get_or_at}
-use Rattle.std.proofs.Math.Seq.{get_or-set_same, get_or-set_other, get_or-take}
-use Rattle.std.proofs.Math.Dec.{ltb}
+use Rattle.std.proofs.Math.Seq.{get_or-set_same, get_or-set_other}
 use Rattle.model.specs.Lit.{var, neg, l_undef, value_lit}
-use Rattle.model.specs.State.{State, initial_state, decision_level}
+use Rattle.model.specs.State as model
+use Rattle.model.specs.State.{initial_state, decision_level}
 use Rattle.model.specs.Store.{stored_literals}
 use Rattle.model.specs.Trail.{unchecked_enqueue, new_decision_level, level_end}
 use Rattle.lawbase.specs.Basics.{split, less?}
-use Rattle.trail.specs.View.{Assignment, enqueued, next_level}
-use Rattle.trail.specs.declared.TrailHead.{TrailHead}
+use Rattle.trail.specs.View.{Assignment, Counted, Undoable, enqueued, next_level, until}
+use Rattle.trail.specs.Laws.{after_until}
+use Rattle.store.specs.Laws.{stored_more}
 use Rattle.watch.specs.View.{Watches, list_of, appended, attached}
-use Rattle.state.specs.declared.Sizes.{Sizes}
-use Rattle.state.specs.declared.Header.{Header}
-use Rattle.state.specs.View.{Whole, whole, with_assignment}
-use Rattle.state.specs.Laws.{with_trail}
-use Rattle.state.specs.AssignmentLaws.{counts, head_until_below, assigned_counted, levels_counted}
-use Rattle.state.specs.StartLaws.{Started}
-use Rattle.state.specs.ClauseLaws.{count_is, literals_is}
-use Rattle.state.specs.WatchSteps.{lists_count, blockers_count}
+use Rattle.watch.specs.Meaning.{as_count}
+use Rattle.state.specs.declared.Config.{Config}
+use Rattle.state.specs.declared.State.{State}
+use Rattle.state.specs.Start.{Started}
 use Rattle.tour.specs.Live.{Live}
-use Rattle.tour.specs.Steps.{Stage, stage, At, pick, lt_yes, lt_no, le_yes, eq_yes, eq_no, opened, placed, gone_back, three, added}
-use Rattle.leafbench.specs.Results.{filled, put_on, signs, hit_by, hits, trues, unless_short}
-use Rattle.leafbench.specs.declared.Turned.{Turned}
+use Rattle.tour.specs.Steps.{At, pick, with_trail, opened, placed, gone_back, three, added}
+use Rattle.leafbench.specs.Results.{filled, put_on, signs, blocks, hits, trues, unless_short}
 
--- ---- two tests in turn
+-- ---- the two outcomes of a test
 
-module _ {A : Type 0} (x y : A) where
-  pick-map : {B : Type 0} (f : A → B) (b : Bool) → f (pick b x y) ≡ pick b (f x) (f y)
-  unfolding pick
-  pick-map f true = refl
-  pick-map f false = refl
+module _ {A B : Type 0} (f : A → B) (x y : A) where
+  pick-map : (b : Bool) → f (pick b x y) ≡ pick b (f x) (f y)
+  pick-map true = refl
+  pick-map false = refl
 
-  picked : (P : A → Type 0) (b c : Bool) → P x → P y → P (pick b (pick c x y) y)
-  unfolding pick
-  picked P true true p q = p
-  picked P true false p q = q
-  picked P false c p q = q
+  picked : (b : Bool) → f x ≡ f y → f (pick b x y) ≡ f y
+  picked true e = e
+  picked false e = refl
+
+-- one more where the test holds
+one_more : (b : Bool) (k : ℕ) → pick b (k + 1) k ≤ k + 1
+one_more true k = omega arith
+one_more false k = omega arith
 
 -- ---- the trail is filled
 
-module _ (d : Sizes) where
-  -- a stage with p on the trail
-  abbrev more : Stage → ℕ → Stage
-  more t p =
-      stage (with_trail t.head (counts (t.head.trail.assigned + 1) t.head.trail.levels)) (with_assignment t.held (enqueued t.held.assignment p 0))
+-- p is put on the trail
+abbrev more : State → ℕ → State
+more s p = with_trail s (enqueued s.trail p 0)
 
-  abbrev put : Stage → ℕ → Stage
-  put t p = placed d t.head t.held p 0
+abbrev on : State → ℕ
+on s = length s.trail.vars.trail
 
-  pub filled_keeps : {B : Type 0} (f : Stage → B) → ((t : Stage) (p : ℕ) → f (more t p) ≡ f t) → (t : Stage) (ps : List ℕ) → f (filled d t ps) ≡ f t
-  unfolding filled
-  filled_keeps f k t [] = refl
-  filled_keeps f k t (p ∷ ps) =
-      filled_keeps f k (put t p) ps
-      ∙ picked (more t p) t (λ u. f u ≡ f t) (ltb t.head.trail.assigned d.vars) (ltb (var p) d.vars) (k t p) refl
+on_more : (s : State) (p : ℕ) → on (more s p) ≡ on s + 1
+unfolding unchecked_enqueue
+on_more s p = length-append s.trail.vars.trail (p ∷ [])
 
-  one_more : (t : Stage) (p : ℕ) (b : Bool) → (pick b (more t p) t).head.trail.assigned ≤ t.head.trail.assigned + 1
-  unfolding pick
-  one_more t p true = omega arith
-  one_more t p false = omega arith
+pub filled_keeps : {B : Type 0} (f : State → B) → ((s : State) (p : ℕ) → f (more s p) ≡ f s) → (s : State) (ps : List ℕ) → f (filled s ps) ≡ f s
+unfolding filled
+filled_keeps f k s [] = refl
+filled_keeps f k s (p ∷ ps) =
+    filled_keeps f k (placed s p 0) ps ∙ picked f (more s p) s (ltb (on s) s.config.vars && ltb (var p) s.config.vars) (k s p)
 
-  pub filled_values : (t : Stage) (ps : List ℕ) → t.head.trail.assigned + length ps ≤ d.vars
-      → (filled d t ps).held.assignment.vars.values ≡ signs d.vars t.held.assignment.vars.values ps
-  unfolding filled signs unchecked_enqueue
-  filled_values t [] g = refl
-  filled_values t (p ∷ ps) g =
-      let b = ltb (var p) d.vars in
-      let u = pick b (more t p) t in
-      let e : put t p ≡ u = lt_yes u t t.head.trail.assigned d.vars (omega arith) in
-      let n : u.head.trail.assigned ≤ t.head.trail.assigned + 1 = one_more t p b in
-      ap (λ (s : Stage). (filled d s ps).held.assignment.vars.values) e
-      ∙ filled_values u ps (omega arith)
-      ∙ ap (λ (vs : List ℕ). signs d.vars vs ps) (pick-map (more t p) t (λ s. s.held.assignment.vars.values) b)
+pub filled_put : (s : State) (ps : List ℕ) → on (filled s ps) ≡ put_on s.config.vars (on s) ps
+unfolding filled put_on
+filled_put s [] = refl
+filled_put s (p ∷ ps) =
+    let n = s.config.vars in
+    let b = ltb (on s) n && ltb (var p) n in
+    let u = placed s p 0 in
+    let same : u.config.vars ≡ n = picked (λ (t : State). t.config.vars) (more s p) s b refl in
+    let count : on u ≡ pick b (on s + 1) (on s) = pick-map on (more s p) s b ∙ ap (λ (k : ℕ). pick b k (on s)) (on_more s p) in
+    filled_put u ps ∙ ap₂ (λ (m k : ℕ). put_on m k ps) same count
 
-  pub filled_put : (t : Stage) (ps : List ℕ) → (filled d t ps).head.trail.assigned ≡ put_on d.vars t.head.trail.assigned ps
-  unfolding filled put_on
-  filled_put t [] = refl
-  filled_put t (p ∷ ps) =
-      let on : Stage → ℕ = λ s. s.head.trail.assigned in
-      let inner = pick (ltb (var p) d.vars) (more t p) t in
-      filled_put (put t p) ps
-      ∙ ap (λ (k : ℕ). put_on d.vars k ps) (pick-map inner t on (ltb (on t) d.vars) ∙ ap (λ (k : ℕ). pick (ltb (on t) d.vars) k (on t)) (pick-map (more t p) t on (ltb (var p) d.vars)))
+pub filled_values : (s : State) (ps : List ℕ) → on s + length ps ≤ s.config.vars → (filled s ps).trail.vars.values ≡ signs s.config.vars s.trail.vars.values ps
+unfolding filled signs unchecked_enqueue
+filled_values s [] g = refl
+filled_values s (p ∷ ps) g =
+    let n = s.config.vars in
+    let b = ltb (var p) n in
+    let u = pick b (more s p) s in
+    let e : placed s p 0 ≡ u = rw (lt-ltb (on s) n (omega arith)) refl in
+    let same : u.config.vars ≡ n = picked (λ (t : State). t.config.vars) (more s p) s b refl in
+    let count : on u ≤ on s + 1 = rw (pick-map on (more s p) s b, on_more s p) (one_more b (on s)) in
+    ap (λ (t : State). (filled t ps).trail.vars.values) e
+    ∙ filled_values u ps (omega (arith, same, count))
+    ∙ ap₂ (λ (m : ℕ) (vs : List ℕ). signs m vs ps) same (pick-map (λ (t : State). t.trail.vars.values) (more s p) s b)
 
-  put_most : (k : ℕ) (ps : List ℕ) → put_on d.vars k ps ≤ k + length ps
-  unfolding put_on
-  put_most k [] = omega arith
-  put_most k (p ∷ ps) =
-      let j = pick (ltb k d.vars) (pick (ltb (var p) d.vars) (k + 1) k) k in
-      let b : j ≤ k + 1 = picked (k + 1) k (λ i. i ≤ k + 1) (ltb k d.vars) (ltb (var p) d.vars) (omega arith) (omega arith) in
-      omega (arith, put_most j ps)
+put_most : (n k : ℕ) (ps : List ℕ) → put_on n k ps ≤ k + length ps
+unfolding put_on
+put_most n k [] = omega arith
+put_most n k (p ∷ ps) =
+    let b = ltb k n && ltb (var p) n in
+    omega (arith, put_most n (pick b (k + 1) k) ps, one_more b k)
 
-  pub put_bound : (order : List ℕ) → put_on d.vars 0 (take 64 order) ≤ 64
-  put_bound order = omega (arith, put_most 0 (take 64 order), length-take 64 order)
+pub put_bound : (n : ℕ) (order : List ℕ) → length order ≤ 64 → put_on n 0 order ≤ 64
+put_bound n order g = omega (arith, put_most n 0 order)
 
-  pub filled_none : (t : Stage) (ps : List ℕ) → length ps ≡ 0 → filled d t ps ≡ t
-  unfolding filled
-  filled_none t [] e = refl
-  filled_none t (p ∷ ps) e = absurd (let z : suc (length ps) ≡ 0 = e in omega arith)
+-- the loop over the literals
+pub filled_on : (s : State) (ps : List ℕ) (i : ℕ) → i < length ps → filled (placed s (get_or ps i 0) 0) (drop (suc i) ps) ≡ filled s (drop i ps)
+unfolding filled
+filled_on s ps i h = ap (filled s) (sym (drop-cons ps i 0 h))
 
-  -- the literal at place i of an order of at least n
-  pub filled_on : (r : Header) {k : Header} (w : List ℕ) {w' : List ℕ} (order : List ℕ) (n i : ℕ) → i < n → n ≤ length order → At d k w' (placed d r (whole d r w) (get_or order i 0) 0)
-      → filled d (stage k (whole d k w')) (drop (suc i) (take n order)) ≡ filled d (stage r (whole d r w)) (drop i (take n order))
-  unfolding filled
-  filled_on r {k} w {w'} order n i g l a =
-      let ps = take n order in
-      let here : get_or ps i 0 ≡ get_or order i 0 = get_or-take n order i 0 g in
-      let size : length ps ≡ n = length-take n order ∙ omega arith in
-      ap (λ (t : Stage). filled d t (drop (suc i) ps)) (a.stage ∙ ap (λ p. placed d r (whole d r w) p 0) (sym here))
-      ∙ ap (filled d (stage r (whole d r w))) (sym (drop-cons ps i 0 (omega arith)))
+pub filled_ends : (s : State) (ps : List ℕ) → length ps ≡ 0 → filled s ps ≡ s
+unfolding filled
+filled_ends s [] e = refl
+filled_ends s (p ∷ ps) e = absurd (let z : suc (length ps) ≡ 0 = e in omega arith)
 
 -- ---- a level is opened, filled and taken back
 
--- the trail is empty again, after n literals in all
-pub record Turns (d : Sizes) (n : ℕ) (r : Turned) (w : List ℕ) : Type 0 where
-  pub live : Live d r.head w
-  pub none : r.head.trail ≡ counts 0 0
-  pub put : r.put ≡ n
+module _ {s a b r : State} (ps : List ℕ) (v : Live s) (none : Counted s.trail 0 0) (opens : At a (opened s)) (fills : At b (filled a ps)) (backs : At r (gone_back b 0 2)) where
+  is_open : a ≡ with_trail s (next_level s.trail)
+  is_open = opens.value ∙ rw (lt-ltb (decision_level s.trail.vars) (3 * s.config.vars) (omega (arith, none.levels, v.some))) refl
 
-module _ {d : Sizes} {h a b r : Header} {w w₁ w₂ w₃ : List ℕ} (ps : List ℕ) (v : Live d h w) (none : h.trail ≡ counts 0 0) (opens : At d a w₁ (opened d h (whole d h w)))
-    (fills : At d b w₂ (filled d (stage a (whole d a w₁)) ps)) (backs : At d r w₃ (gone_back d b (whole d b w₂) 0 2)) where
-  abbrev limits : Stage → List ℕ
-  limits t = t.held.assignment.vars.limits
-
-  assigned_none : h.trail.assigned ≡ 0
-  assigned_none = ap (λ (t : TrailHead). t.assigned) none
-
-  levels_none : h.trail.levels ≡ 0
-  levels_none = ap (λ (t : TrailHead). t.levels) none
-
-  abbrev one_open : Stage
-  one_open =
-      stage (with_trail h (counts h.trail.assigned (h.trail.levels + 1))) (with_assignment (whole d h w) (next_level (whole d h w).assignment))
-
-  is_open : stage a (whole d a w₁) ≡ one_open
-  is_open = opens.stage ∙ lt_yes one_open (stage h (whole d h w)) h.trail.levels (3 * d.vars) (omega (arith, levels_none, v.rep.room.some))
-
-  limits_open : (whole d b w₂).assignment.vars.limits ≡ (whole d h w).assignment.vars.limits ++ (length (whole d h w).assignment.vars.trail ∷ [])
+  limits_open : b.trail.vars.limits ≡ s.trail.vars.limits ++ (on s ∷ [])
   unfolding unchecked_enqueue new_decision_level
   limits_open =
-      ap limits fills.stage ∙ filled_keeps d limits (λ t p. refl) (stage a (whole d a w₁)) ps ∙ ap limits is_open
+      let limits : State → List ℕ = λ t. t.trail.vars.limits in
+      ap limits fills.value ∙ filled_keeps limits (λ t p. refl) a ps ∙ ap limits is_open
 
-  starts_at : level_end (whole d b w₂).assignment.vars 0 ≡ 0
+  one_level : decision_level b.trail.vars ≡ 1
+  one_level = ap (λ (ls : List ℕ). length ls) limits_open ∙ length-append s.trail.vars.limits (on s ∷ []) ∙ omega (arith, none.levels)
+
+  starts_at : level_end b.trail.vars 0 ≡ 0
   starts_at =
-      ap (λ (ls : List ℕ). get_or ls 0 0) limits_open
-      ∙ get_or_at (whole d h w).assignment.vars.limits (length (whole d h w).assignment.vars.trail) [] 0 0 (levels_counted v.rep ∙ levels_none)
-      ∙ assigned_counted v.rep
-      ∙ assigned_none
+      ap (λ (ls : List ℕ). get_or ls 0 0) limits_open ∙ get_or_at s.trail.vars.limits (on s) [] 0 0 none.levels ∙ none.assigned
 
-  one_level : b.trail.levels ≡ 1
-  one_level =
-      ap (λ (t : Stage). t.head.trail.levels) fills.stage
-      ∙ filled_keeps d (λ t. t.head.trail.levels) (λ t p. refl) (stage a (whole d a w₁)) ps
-      ∙ ap (λ (t : Stage). t.head.trail.levels) is_open
-      ∙ omega (arith, levels_none)
+  config_open : b.config ≡ s.config
+  unfolding new_decision_level
+  config_open = ap (λ (t : State). t.config) fills.value ∙ filled_keeps (λ t. t.config) (λ t p. refl) a ps ∙ ap (λ (t : State). t.config) is_open
 
-  pub turn_put : b.trail.assigned ≡ put_on d.vars 0 ps
+  pub turn_put : on b ≡ put_on s.config.vars 0 ps
+  unfolding new_decision_level
   turn_put =
-      ap (λ (t : Stage). t.head.trail.assigned) fills.stage
-      ∙ filled_put d (stage a (whole d a w₁)) ps
-      ∙ ap (λ (k : ℕ). put_on d.vars k ps) (ap (λ (t : Stage). t.head.trail.assigned) is_open ∙ assigned_none)
+      ap on fills.value ∙ filled_put a ps ∙ ap₂ (λ (m k : ℕ). put_on m k ps) (ap (λ (t : State). t.config.vars) is_open) (ap on is_open ∙ none.assigned)
 
-  pub turned : r.trail ≡ counts 0 0
-  turned =
-      let x = whole d b w₂ in
-      let vs = x.assignment.vars in
-      let e =
-      ap (λ (t : Stage). t.head.trail) backs.stage
-      ∙ ap (λ (t : Stage). t.head.trail) (lt_yes _ _ 0 b.trail.levels (omega (arith, one_level)) ∙ le_yes _ _ (level_end vs 0) b.trail.assigned (omega (arith, starts_at)) ∙ le_yes _ _ (level_end vs 0) (level_end vs (b.trail.levels - 1)) (omega (arith, starts_at)))
+  goes : r ≡ record b { trail = until 2 b.trail 0; qhead = level_end b.trail.vars 0 }
+  goes =
+      let low : 0 ≤ on b = omega arith in
+      let e : gone_back b 0 2 ≡ record b { trail = until 2 b.trail 0; qhead = level_end b.trail.vars 0 } =
+      rw
+      (lt-ltb 0 (decision_level b.trail.vars) (omega (arith, one_level)), le-leb (level_end b.trail.vars 0) (on b) (omega (arith, starts_at)), le-leb (level_end b.trail.vars 0) (level_end b.trail.vars (decision_level b.trail.vars - 1)) (omega (arith, starts_at)))
+      refl
       in
-      e ∙ ap (λ (k : Header). k.trail) (head_until_below vs b 0 (omega (arith, levels_counted fills.live.rep, one_level))) ∙ ap (λ n. counts n 0) starts_at
+      backs.value ∙ e
+
+  pub turned : Counted r.trail 0 0
+  turned =
+      let u : Undoable b.config.vars b.trail.vars 0 =
+      record { within = omega (arith, starts_at); ordered = omega (arith, starts_at); lits = fills.live.lits }
+      in
+      let k = after_until b.trail 2 0 (omega (arith, one_level)) u in
+      rw goes (record { assigned = k.assigned ∙ starts_at; levels = k.levels })
+
+  pub turn_config : r.config ≡ s.config
+  turn_config = ap (λ (t : State). t.config) goes ∙ config_open
 
 -- ---- the start
 
-module _ {d : Sizes} {r : Header} {w₀ w : List ℕ} (k : Started d r w₀ w) where
-  pub begun_trail : r.trail ≡ counts 0 0
+no_items : (xs : List ℕ) → length xs ≡ 0 → xs ≡ []
+no_items [] e = refl
+no_items (x ∷ xs) e = absurd (let z : suc (length xs) ≡ 0 = e in omega arith)
+
+module _ {g : Config} {w : List ℕ} {s : State} (k : Started g w s) where
+  pub begun_trail : Counted s.trail 0 0
   unfolding initial_state
   begun_trail =
-      ap₂ counts
-      (sym (assigned_counted k.rep) ∙ ap (λ (s : State). length s.vars.trail) k.state)
-      (sym (levels_counted k.rep) ∙ ap (λ (s : State). decision_level s.vars) k.state)
+      record { assigned = ap (λ (t : model.State). length t.vars.trail) k.has.state; levels = ap (λ (t : model.State). length t.vars.limits) k.has.state }
 
-  pub begun_values : (whole d r w).assignment.vars.values ≡ replicate d.vars l_undef
+  pub begun_values : s.trail.vars.values ≡ replicate g.vars l_undef
   unfolding initial_state
-  begun_values = ap (λ (s : State). s.vars.values) k.state
+  begun_values = ap (λ (t : model.State). t.vars.values) k.has.state
 
-  pub begun-clauses : r.store.clauses ≡ 0
+  begun-clauses : s.clauses.clauses ≡ []
   unfolding initial_state
-  begun-clauses = count_is d r w k.rep ∙ ap (λ (s : State). length s.store.clauses) k.state
+  begun-clauses = ap (λ (t : model.State). t.store.clauses) k.has.state
 
-  pub begun-literals : r.store.literals ≡ 0
-  unfolding initial_state stored_literals
-  begun-literals = literals_is d r w k.rep ∙ ap (λ (s : State). stored_literals s.store.clauses) k.state
+  begun_list : 1 < 2 * g.vars → list_of s.watches 1 ≡ []
+  unfolding initial_state
+  begun_list h =
+      no_items (list_of s.watches 1)
+      (sym (as_count s.watches 1) ∙ ap (λ (t : model.State). length (get_or t.store.watches 1 [])) k.has.state ∙ ap (λ (l : List model.Watch). length l) (get_or-replicate (2 * g.vars) 1 [] [] h))
 
 -- ---- the watches of literal 1
 
@@ -216,11 +192,11 @@ abbrev BlocksTo : List ℕ → ℕ → Type 0
 BlocksTo bs m = (j : ℕ) → j < m → get_or bs (2 * j) 0 ≡ 2 * j + 2
 
 -- m clauses are watched there, whose second literals are 2, 4 .. 2 * m
-pub record Lined (x : Whole) (m : ℕ) : Type 0 where
-  pub list : list_of x.watches 1 ≡ evens m
-  pub blockers : BlocksTo x.watches.blockers m
+pub record Lined (w : Watches) (m : ℕ) : Type 0 where
+  pub list : list_of w 1 ≡ evens m
+  pub blockers : BlocksTo w.blockers m
 
-pub lined_length : {x : Whole} (m : ℕ) → Lined x m → length (list_of x.watches 1) ≡ m
+pub lined_length : {w : Watches} (m : ℕ) → Lined w m → length (list_of w 1) ≡ m
 lined_length m k = ap length k.list ∙ evens-length m
 
 even : (m : ℕ) → (2 * m + 2) % 2 ≡ 0
@@ -248,158 +224,134 @@ module _ (s : Watches) (m : ℕ) where
       last : m ≤ j → j ≡ m
       last n = omega arith
 
--- what the loop over the clauses keeps
-pub record Row (d : Sizes) (h : Header) (x : Whole) (r : Header) (w : List ℕ) (i : ℕ) : Type 0 where
-  pub live : Live d r w
-  pub clauses : r.store.clauses ≡ i
-  pub literals : r.store.literals ≡ 3 * i
-  pub trail : r.trail ≡ h.trail
-  pub assignment : (whole d r w).assignment ≡ x.assignment
-  pub lined : Lined (whole d r w) i
+-- room for the literals and the clauses
+pub record Ample (s : State) : Type 0 where
+  pub vars : 64 ≤ s.config.vars
+  pub room : 32 ≤ s.clauses.room
+  pub lit_room : 96 ≤ s.clauses.lit_room
 
-abbrev pub Ample : Sizes → Type 0
-Ample d = (64 ≤ d.vars) × (32 ≤ d.room) × (96 ≤ d.lit_room)
+-- what the loop over the clauses keeps of the state x
+pub record Row (x s : State) (i : ℕ) : Type 0 where
+  pub live : Live s
+  pub config : s.config ≡ x.config
+  pub trail : s.trail ≡ x.trail
+  pub clauses : length s.clauses.clauses ≡ i
+  pub literals : stored_literals s.clauses.clauses ≡ 3 * i
+  pub room : s.clauses.room ≡ x.clauses.room
+  pub lit_room : s.clauses.lit_room ≡ x.clauses.lit_room
+  pub lined : Lined s.watches i
 
-pub row_begun : {d : Sizes} {r : Header} {w₀ w : List ℕ} → Ample d → Live d r w → Started d r w₀ w → Row d r (whole d r w) r w 0
-unfolding evens
-row_begun {d} {r} {w₀} {w} a v k =
+pub row_begun : {g : Config} {w : List ℕ} {s : State} → Live s → Started g w s → 1 < 2 * g.vars → Row s s 0
+unfolding evens stored_literals
+row_begun {g} {w} {s} v k h =
     record {
       live = v;
-      clauses = begun-clauses k;
-      literals = begun-literals k;
+      config = refl;
       trail = refl;
-      assignment = refl;
-      lined = record { list = ap (λ (ls : List (List ℕ)). get_or ls 1 []) k.lists ∙ get_or-replicate (2 * d.vars) 1 [] [] (omega (arith, a.0)); blockers = λ j g. absurd (not-suc-le-zero g) };
+      clauses = ap (λ (cs : List (List ℕ)). length cs) (begun-clauses k);
+      literals = ap stored_literals (begun-clauses k);
+      room = refl;
+      lit_room = refl;
+      lined = record { list = begun_list k h; blockers = λ j b. absurd (not-suc-le-zero b) };
     }
 
-module _ {d : Sizes} {h : Header} {x : Whole} {r k : Header} {w w' : List ℕ} {i : ℕ} (a : Ample d) (v : Row d h x r w i) (g : i < 32)
-    (adds : At d k w' (added d r (whole d r w) 0 (2 * i + 2) 4)) where
-  abbrev with_one : Stage
-  with_one = three d r (whole d r w) 0 (2 * i + 2) 4
-
-  is_added : stage k (whole d k w') ≡ with_one
+module _ {x s s' : State} {i : ℕ} (a : Ample x) (v : Row x s i) (g : i < 32) (adds : At s' (added s 0 (2 * i + 2) 4)) where
+  is_added : s' ≡ three s 0 (2 * i + 2) 4
   is_added =
-      adds.stage
-      ∙ lt_yes _ _ r.store.clauses d.room (omega (arith, a.1, v.clauses))
-      ∙ le_yes _ _ (r.store.literals + 3) d.lit_room (omega (arith, a.2, v.literals))
-      ∙ lt_yes _ _ 0 (2 * d.vars) (omega (arith, a.0))
-      ∙ lt_yes _ _ (2 * i + 2) (2 * d.vars) (omega (arith, a.0))
+      adds.value
+      ∙ rw
+      (lt-ltb (length s.clauses.clauses) s.clauses.room (omega (arith, a.room, v.room, v.clauses)), le-leb (stored_literals s.clauses.clauses + 3) s.clauses.lit_room (omega (arith, a.lit_room, v.lit_room, v.literals)), lt-ltb 0 (2 * s.config.vars) (omega (arith, v.live.some)), lt-ltb (2 * i + 2) (2 * s.config.vars) (omega (arith, a.vars, ap (λ (c : Config). c.vars) v.config)))
+      refl
 
-  watches_are : (whole d k w').watches ≡ attached i 0 (2 * i + 2) (whole d r w).watches
-  watches_are =
-      let cs = (whole d r w).clauses.clauses in
-      let ps : List ℕ = 0 ∷ (2 * i + 2) ∷ 4 ∷ [] in
-      let n : length cs ≡ i = sym (count_is d r w v.live.rep) ∙ v.clauses in
-      ap (λ (t : Stage). t.held.watches) is_added
-      ∙ ap (λ (q : List ℕ). attached (length cs) (get_or q 0 0) (get_or q 1 0) (whole d r w).watches) (get_or_at cs ps [] [] (length cs) refl)
-      ∙ ap (λ c. attached c 0 (2 * i + 2) (whole d r w).watches) n
+  watches_are : s'.watches ≡ attached i 0 (2 * i + 2) s.watches
+  watches_are = ap (λ (t : State). t.watches) is_added ∙ ap (λ c. attached c 0 (2 * i + 2) s.watches) v.clauses
 
-  pub row_more : Row d h x k w' (suc i)
+  pub row_more : Row x s' (suc i)
   row_more =
+      let cs = s.clauses.clauses in
+      let ps : List ℕ = 0 ∷ (2 * i + 2) ∷ 4 ∷ [] in
+      let wide : 64 ≤ s.config.vars = omega (arith, a.vars, ap (λ (c : Config). c.vars) v.config) in
       record {
         live = adds.live;
-        clauses = ap (λ (t : Stage). t.head.store.clauses) is_added ∙ omega (arith, v.clauses);
-        literals = ap (λ (t : Stage). t.head.store.literals) is_added ∙ omega (arith, v.literals);
-        trail = ap (λ (t : Stage). t.head.trail) is_added ∙ v.trail;
-        assignment = ap (λ (t : Stage). t.held.assignment) is_added ∙ v.assignment;
+        config = ap (λ (t : State). t.config) is_added ∙ v.config;
+        trail = ap (λ (t : State). t.trail) is_added ∙ v.trail;
+        clauses = ap (λ (t : State). length t.clauses.clauses) is_added ∙ length-append cs (ps ∷ []) ∙ omega (arith, v.clauses);
+        literals = ap (λ (t : State). stored_literals t.clauses.clauses) is_added ∙ stored_more cs ps ∙ omega (arith, v.literals);
+        room = ap (λ (t : State). t.clauses.room) is_added ∙ v.room;
+        lit_room = ap (λ (t : State). t.clauses.lit_room) is_added ∙ v.lit_room;
         lined =
             record {
-              list = ap (λ (s : Watches). list_of s 1) watches_are ∙ one_attached (whole d r w).watches i (omega (arith, lists_count d r w v.live.rep, a.0)) v.lined.list;
+              list = ap (λ (w : Watches). list_of w 1) watches_are ∙ one_attached s.watches i (omega (arith, v.live.lists, wide)) v.lined.list;
               blockers =
-                  subst (λ (s : Watches). BlocksTo s.blockers (suc i)) (sym watches_are)
-                  (one_blocker (whole d r w).watches i (omega (arith, blockers_count d r w v.live.rep, a.1)) v.lined.blockers);
+                  subst (λ (w : Watches). BlocksTo w.blockers (suc i)) (sym watches_are)
+                  (one_blocker s.watches i (omega (arith, v.live.nodes, a.room, v.room)) v.lined.blockers);
             };
       }
 
 -- ---- a walk
 
-small : (s t : Bool) → pick s (pick t 1 0) 0 ≤ 1
-unfolding pick
-small true true = omega arith
-small true false = omega arith
-small false t = omega arith
+bit_low : (b : Bool) → pick b 1 0 ≤ 1
+bit_low true = omega arith
+bit_low false = omega arith
 
-module _ (d : Sizes) (x : Whole) where
-  hit_low : (b : ℕ) → hit_by d x b ≤ 1
-  hit_low b = small (ltb (var b) d.vars) (eqb (value_lit x.assignment.vars.values b) 0)
+module _ (s : State) where
+  abbrev pub hit : ℕ → ℕ
+  hit y = pick (blocks s (get_or s.watches.blockers y 0)) 1 0
 
-  pub hits-bound : (ys : List ℕ) → hits d x ys ≤ length ys
+  pub hits-bound : (ys : List ℕ) → hits s ys ≤ length ys
   unfolding hits
   hits-bound [] = omega arith
-  hits-bound (y ∷ ys) = omega (arith, hit_low (get_or x.watches.blockers y 0), hits-bound ys)
+  hits-bound (y ∷ ys) = omega (arith, bit_low (blocks s (get_or s.watches.blockers y 0)), hits-bound ys)
 
-  hits_snoc : (ys : List ℕ) (y : ℕ) → hits d x (ys ++ (y ∷ [])) ≡ hits d x ys + hit_by d x (get_or x.watches.blockers y 0)
+  hits_snoc : (ys : List ℕ) (y : ℕ) → hits s (ys ++ (y ∷ [])) ≡ hits s ys + hit y
   unfolding hits
   hits_snoc [] y = omega arith
-  hits_snoc (z ∷ ys) y = ap (λ n. hit_by d x (get_or x.watches.blockers z 0) + n) (hits_snoc ys y) ∙ omega arith
+  hits_snoc (z ∷ ys) y = ap (λ n. hit z + n) (hits_snoc ys y) ∙ omega arith
 
-  pub hits_none : (ys : List ℕ) → length ys ≡ 0 → hits d x ys ≡ 0
+  pub hits_none : (ys : List ℕ) → length ys ≡ 0 → hits s ys ≡ 0
   unfolding hits
   hits_none [] e = refl
   hits_none (y ∷ ys) e = absurd (let z : suc (length ys) ≡ 0 = e in omega arith)
 
-  pub walked_on : (xs : List ℕ) (i y : ℕ) → i < length xs → y ≡ get_or xs i 0 → hits d x (drop i xs) ≡ hit_by d x (get_or x.watches.blockers y 0) + hits d x (drop (i + 1) xs)
+  pub walked_on : (xs : List ℕ) (i : ℕ) → i < length xs → hits s (drop i xs) ≡ hit (get_or xs i 0) + hits s (drop (suc i) xs)
   unfolding hits
-  walked_on xs i y h e =
-      ap (hits d x) (drop-cons xs i 0 h)
-      ∙ ap (λ z. hit_by d x (get_or x.watches.blockers z 0) + hits d x (drop (suc i) xs)) (sym e)
-      ∙ ap (λ m. hit_by d x (get_or x.watches.blockers y 0) + hits d x (drop m xs)) (let n : suc i ≡ i + 1 = omega arith in n)
+  walked_on xs i h = ap (hits s) (drop-cons xs i 0 h)
 
-  -- the blocker b of node y
-  module _ (b y : ℕ) (e : b ≡ get_or x.watches.blockers y 0) where
-    to_b : hit_by d x (get_or x.watches.blockers y 0) ≡ hit_by d x b
-    to_b = ap (hit_by d x) (sym e)
-
-    pub hit_true : var b < d.vars → value_lit x.assignment.vars.values b ≡ 0 → hit_by d x (get_or x.watches.blockers y 0) ≡ 1
-    hit_true g z = to_b ∙ lt_yes _ _ (var b) d.vars g ∙ eq_yes _ _ (value_lit x.assignment.vars.values b) 0 z
-
-    pub hit_false : var b < d.vars → value_lit x.assignment.vars.values b ≢ 0 → hit_by d x (get_or x.watches.blockers y 0) ≡ 0
-    hit_false g z = to_b ∙ lt_yes _ _ (var b) d.vars g ∙ eq_no _ _ (value_lit x.assignment.vars.values b) 0 z
-
-    pub hit_none : d.vars ≤ var b → hit_by d x (get_or x.watches.blockers y 0) ≡ 0
-    hit_none g = to_b ∙ lt_no _ _ (var b) d.vars g
-
-  hits-evens : (m : ℕ) → BlocksTo x.watches.blockers m → m < d.vars → hits d x (evens m) ≡ trues x.assignment.vars.values m
+  hits-evens : (m : ℕ) → BlocksTo s.watches.blockers m → m < s.config.vars → hits s (evens m) ≡ trues s.trail.vars.values m
   unfolding hits evens trues
   hits-evens zero b g = refl
   hits-evens (suc m) b g =
-      hits_snoc (evens m) (2 * m)
-      ∙ ap₂ ◌+◌ (hits-evens m (λ j h. b j (omega arith)) (omega arith))
-      (ap (hit_by d x) (b m (omega arith)) ∙ lt_yes _ _ (var (2 * m + 2)) d.vars (omega arith))
+      let one : hit (2 * m) ≡ pick (eqb (value_lit s.trail.vars.values (2 * m + 2)) 0) 1 0 = rw (b m (omega arith), lt-ltb (var (2 * m + 2)) s.config.vars (omega arith)) refl in
+      hits_snoc (evens m) (2 * m) ∙ ap₂ ◌+◌ (hits-evens m (λ j h. b j (omega arith)) (omega arith)) one
 
-  pub hits_lined : (m : ℕ) → Lined x m → m < d.vars → hits d x (list_of x.watches 1) ≡ trues x.assignment.vars.values m
-  hits_lined m k g = ap (hits d x) k.list ∙ hits-evens m k.blockers g
+  pub hits_lined : (m : ℕ) → Lined s.watches m → m < s.config.vars → hits s (list_of s.watches 1) ≡ trues s.trail.vars.values m
+  hits_lined m k g = ap (hits s) k.list ∙ hits-evens m k.blockers g
 
 -- ---- the answers
 
 module _ {A : Type 0} (m n : ℕ) (refused x : A) where
-  pub short_work : m < 2114 → unless_short m n refused x ≡ refused
-  short_work g = lt_yes _ _ m 2114 g
-
-  pub short_order : 2114 ≤ m → n < 64 → unless_short m n refused x ≡ refused
-  short_order g h = lt_no _ _ m 2114 g ∙ lt_yes _ _ n 64 h
-
   pub long_enough : 2114 ≤ m → 64 ≤ n → unless_short m n refused x ≡ x
-  long_enough g h = lt_no _ _ m 2114 g ∙ lt_no _ _ n 64 h
+  long_enough g h = rw (le-ltb m 2114 g, le-ltb n 64 h) refl
 
 -- the watches that were laid out, once the literals ps are on the trail
-module _ {d : Sizes} {h a b : Header} {w₀ w w₁ w₂ : List ℕ} (ps : List ℕ) (k : Started d h w₀ w) (ample : Ample d) (row : Row d h (whole d h w) a w₁ 32)
-    (fills : At d b w₂ (filled d (stage a (whole d a w₁)) ps)) where
-  pub lined_filled : Lined (whole d b w₂) 32
+module _ {g : Config} {w : List ℕ} {s a b : State} (ps : List ℕ) (k : Started g w s) (row : Row s a 32) (fills : At b (filled a ps)) where
+  pub lined_filled : Lined b.watches 32
   lined_filled =
-      let same : (whole d b w₂).watches ≡ (whole d a w₁).watches = ap (λ (t : Stage). t.held.watches) fills.stage ∙ filled_keeps d (λ t. t.held.watches) (λ t p. refl) (stage a (whole d a w₁)) ps in
+      let same : b.watches ≡ a.watches = ap (λ (t : State). t.watches) fills.value ∙ filled_keeps (λ t. t.watches) (λ t p. refl) a ps in
       record {
         list = ap (λ (s : Watches). list_of s 1) same ∙ row.lined.list;
         blockers = subst (λ (s : Watches). BlocksTo s.blockers 32) (sym same) row.lined.blockers;
       }
 
-  pub hits-filled : length ps ≤ d.vars → hits d (whole d b w₂) (list_of (whole d b w₂).watches 1) ≡ trues (signs d.vars (replicate d.vars l_undef) ps) 32
-  hits-filled g =
-      let none : a.trail.assigned ≡ 0 = ap (λ (t : TrailHead). t.assigned) (row.trail ∙ begun_trail k) in
-      let values : (whole d a w₁).assignment.vars.values ≡ replicate d.vars l_undef = ap (λ (y : Assignment). y.vars.values) row.assignment ∙ begun_values k in
-      let e : (whole d b w₂).assignment.vars.values ≡ signs d.vars (replicate d.vars l_undef) ps =
-      ap (λ (t : Stage). t.held.assignment.vars.values) fills.stage
-      ∙ filled_values d (stage a (whole d a w₁)) ps (omega (arith, none))
-      ∙ ap (λ (vs : List ℕ). signs d.vars vs ps) values
+  pub config_filled : b.config ≡ g
+  config_filled = ap (λ (t : State). t.config) fills.value ∙ filled_keeps (λ t. t.config) (λ t p. refl) a ps ∙ row.config ∙ k.config
+
+  pub hits-filled : 33 ≤ g.vars → length ps ≤ g.vars → hits b (list_of b.watches 1) ≡ trues (signs g.vars (replicate g.vars l_undef) ps) 32
+  hits-filled wide h =
+      let none : on a ≡ 0 = ap (λ (t : Assignment). length t.vars.trail) row.trail ∙ (begun_trail k).assigned in
+      let vars : a.config.vars ≡ g.vars = ap (λ (c : Config). c.vars) (row.config ∙ k.config) in
+      let values : a.trail.vars.values ≡ replicate g.vars l_undef = ap (λ (t : Assignment). t.vars.values) row.trail ∙ begun_values k in
+      let e : b.trail.vars.values ≡ signs g.vars (replicate g.vars l_undef) ps =
+      ap (λ (t : State). t.trail.vars.values) fills.value ∙ filled_values a ps (omega (arith, none, vars)) ∙ ap₂ (λ (m : ℕ) (vs : List ℕ). signs m vs ps) vars values
       in
-      hits_lined d (whole d b w₂) 32 lined_filled (omega (arith, ample.0)) ∙ ap (λ (vs : List ℕ). trues vs 32) e
+      hits_lined b 32 lined_filled (omega (arith, ap (λ (c : Config). c.vars) config_filled)) ∙ ap (λ (vs : List ℕ). trues vs 32) e

@@ -1,33 +1,32 @@
 -- What the loops give.
-use Rattle.std.specs.Prelude.{ℕ, zero, suc, ◌+◌, ◌*◌, List, [], ◌∷◌, length, get_or, set, take, replicate, ltb, eqb}
-use Rattle.model.specs.Lit.{var, sign, l_undef, value_lit}
-use Rattle.state.specs.declared.Sizes.{Sizes}
-use Rattle.state.specs.View.{Whole}
-use Rattle.tour.specs.Steps.{Stage, pick, placed}
+use Rattle.std.specs.Prelude.{ℕ, zero, suc, ◌+◌, ◌*◌, Bool, ◌&&◌, List, [], ◌∷◌, length, get_or, set, take, replicate, ltb, eqb}
+use Rattle.model.specs.Lit.{var, sign, l_undef, value_lit, is_true}
+use Rattle.state.specs.declared.State.{State}
+use Rattle.tour.specs.Steps.{pick, placed}
 
--- the stage with the literals ps put on the trail, one after the other
-unfoldable pub filled : Sizes → Stage → List ℕ → Stage
-filled d t [] = t
-filled d t (p ∷ ps) = filled d (placed d t.head t.held p 0) ps
+-- the state with the literals ps put on the trail, one after the other
+unfoldable pub filled : State → List ℕ → State
+filled s [] = s
+filled s (p ∷ ps) = filled (placed s p 0) ps
 
 -- how many literals are on the trail of n variables where there were k, and the literals ps are put on it: one past the variables is not, nor any where it is full
 unfoldable pub put_on : ℕ → ℕ → List ℕ → ℕ
 put_on n k [] = k
-put_on n k (p ∷ ps) = put_on n (pick (ltb k n) (pick (ltb (var p) n) (k + 1) k) k) ps
+put_on n k (p ∷ ps) = put_on n (pick (ltb k n && ltb (var p) n) (k + 1) k) ps
 
 -- the values of n variables, with the literals ps made true
 unfoldable pub signs : ℕ → List ℕ → List ℕ → List ℕ
 signs n vs [] = vs
 signs n vs (p ∷ ps) = signs n (pick (ltb (var p) n) (set vs (var p) (sign p)) vs) ps
 
--- 1 where the literal b is of a variable and true
-abbrev pub hit_by : Sizes → Whole → ℕ → ℕ
-hit_by d x b = pick (ltb (var b) d.vars) (pick (eqb (value_lit x.assignment.vars.values b) 0) 1 0) 0
+-- whether the literal b is of a variable and true
+abbrev pub blocks : State → ℕ → Bool
+blocks s b = ltb (var b) s.config.vars && is_true s.trail.vars.values b
 
 -- how many of the nodes have a true blocker
-unfoldable pub hits : Sizes → Whole → List ℕ → ℕ
-hits d x [] = 0
-hits d x (y ∷ ys) = hit_by d x (get_or x.watches.blockers y 0) + hits d x ys
+unfoldable pub hits : State → List ℕ → ℕ
+hits s [] = 0
+hits s (y ∷ ys) = pick (blocks s (get_or s.watches.blockers y 0)) 1 0 + hits s ys
 
 -- how many of the literals 2, 4 .. 2 * m are true
 unfoldable pub trues : List ℕ → ℕ → ℕ

@@ -1,29 +1,24 @@
 // Runs what stands on no other code: Luby's terms, activities by their bits, and a set of literals. The gate compares what it writes.
 #![tactic(auto)]
 
-ghost use Rattle.std.specs.Prelude.{◌<◌, ◌≤◌, length};
-ghost use Rattle.region.specs.Split.{total};
-ghost use Rattle.litset.specs.View.{shape, Rep};
+ghost use Rattle.std.specs.Prelude.{◌<◌, ◌≤◌, ◌≡◌, length};
 
+use activity::Activities;
 use clause::{Lit, Var};
-use litset::{Head, Size};
+use litset::LitSet;
 
 // What cannot be written is left out: the gate then finds that it is missing.
 fn number(rt: &impl Print, n: u64) {
     let _ = print!(rt; "{n} ");
 }
 
-fn wide(x: u32) -> u64 {
-    x as u64
-}
-
 // A float's bits, or a dash for a NaN.
 fn bits(rt: &impl Print, x: f64) {
-    if x == x {
-        let n = f64::to_bits(x);
-        let _ = print!(rt; "{n:016x} ");
-    } else {
+    if x.is_nan() {
         let _ = print!(rt; "- ");
+    } else {
+        let n = x.to_bits();
+        let _ = print!(rt; "{n:016x} ");
     }
 }
 
@@ -36,112 +31,103 @@ fn terms(rt: &impl Print, first: u32, end: u32)
     requires { (first ≤ end) × (end < 131072) }
 {
     for x in first..end {
-        number(rt, luby::luby(x) as u64);
+        number(rt, u64::from(luby::luby(x)));
     }
     line(rt);
 }
 
 // Variable v is bumped n times, with a decay after each.
-fn bumps(act: &mut [f64], v: Var, inc: f64, n: u32) -> f64
-    requires { v.0 < length act.old }
+#[tactic(auto, using(activity::specs::Activities::bump_sized, activity::specs::Activities::decay_sized))]
+fn bumps(act: &mut Activities, v: Var, n: u32)
+    requires { v.0 < length act.old.activities }
+    ensures { length act.new.activities ≡ length act.old.activities }
 {
-    let mut step = inc;
-    for i in 0..n {
-        step = activity::decay(activity::bump(act, v, step));
+    for _ in 0..n {
+        act.bump(v);
+        act.decay();
     }
-    step
 }
 
-fn activities(rt: &impl Print, act: &[f64], inc: f64) {
-    for i in 0..act.len() {
-        bits(rt, act[i]);
+// Variable 1 is bumped once, then variable 2 as often as is said.
+fn bumped<'a>(cells: &'a mut [f64; 4], n: u32) -> Activities<'a>
+    ensures { length result.activities ≡ 4 }
+{
+    let mut act = Activities::new(cells);
+    bumps(&mut act, Var(1), 1);
+    bumps(&mut act, Var(2), n);
+    act
+}
+
+// The activities of three variables, and what a bump adds: the activity of a fourth that has its first bump.
+fn activities(rt: &impl Print, n: u32) {
+    let mut cells = [1.0f64; 4];
+    bumped(&mut cells, n).bump(Var(3));
+    for x in &cells {
+        bits(rt, *x);
     }
-    bits(rt, inc);
     line(rt);
 }
 
 // What is picked: a variable, or the number of variables where none is.
-fn picked<'a>(rt: &impl Print, values: &'a [u32; 3], act: &'a [f64])
-    requires { 3 ≤ length act.now }
+fn picked(rt: &impl Print, values: &[u32; 3], act: &Activities)
+    requires { 3 ≤ length act.now.activities }
 {
-    match activity::pick(values, act) {
-        Some(v) => number(rt, wide(v.0)),
+    match act.pick(values) {
+        Some(v) => number(rt, u64::from(v.0)),
         None => number(rt, 3),
     }
 }
 
 // The pick where all variables are unset, only the first, and none.
-fn picks(rt: &impl Print, act: &[f64])
-    requires { 3 ≤ length act.now }
-{
-    let all = [2u32, 2, 2];
-    picked(rt, &all, act);
-    let first = [2u32, 0, 1];
-    picked(rt, &first, act);
-    let none = [0u32, 1, 0];
-    picked(rt, &none, act);
+fn picks(rt: &impl Print, n: u32) {
+    let mut cells = [1.0f64; 4];
+    let act = bumped(&mut cells, n);
+    picked(rt, &[2, 2, 2], &act);
+    picked(rt, &[2, 0, 1], &act);
+    picked(rt, &[0, 1, 0], &act);
     line(rt);
 }
 
 // One member more, where there is room.
-fn put(d: Size, h: Head, s: &mut [u32], l: u32) -> Head
-    requires { Rep d h s.old }
-    ensures { Rep d result s.new }
+fn put(set: &mut LitSet, l: u32)
+    requires { (length set.old.flag_cells ≡ 6) × (length set.old.item_cells ≡ 4) }
+    ensures { (length set.new.flag_cells ≡ 6) × (length set.new.item_cells ≡ 4) }
 {
-    if h.count < d.room {
-        if (l as usize) < d.lits {
-            return litset::insert(d, h, s, Lit(l));
-        }
+    if set.len() < 4 && l < 6 {
+        set.insert(Lit(l));
     }
-    h
 }
 
-fn members(rt: &impl Print, d: Size, h: Head, s: &[u32])
-    requires { Rep d h s.now }
-{
-    number(rt, litset::len(d, h, s) as u64);
-    let m = litset::items(d, h, s);
-    for i in 0..m.len() {
-        number(rt, wide(m[i]));
+fn members(rt: &impl Print, set: &LitSet) {
+    number(rt, set.len() as u64);
+    for l in set.items() {
+        number(rt, u64::from(*l));
     }
     line(rt);
 }
 
-// Three literals, one of them twice.
-fn three(d: Size, h: Head, s: &mut [u32]) -> Head
-    requires { Rep d h s.old }
-    ensures { Rep d result s.new }
-{
-    let a = put(d, h, s, 5);
-    let b = put(d, a, s, 0);
-    let c = put(d, b, s, 5);
-    put(d, c, s, 3)
-}
-
-// A set that is filled, cleared, and has one literal again.
-fn sets(rt: &impl Print, d: Size, s: &mut [u32])
-    requires { total (shape d) ≤ length s.old }
-{
-    let a = litset::start(d, s);
-    let b = three(d, a, s);
-    members(rt, d, b, s);
-    let c = litset::clear(d, b, s);
-    members(rt, d, c, s);
-    let e = put(d, c, s, 5);
-    members(rt, d, e, s);
+// A set that gets three literals, one of them twice, is cleared, and has one literal again.
+fn sets(rt: &impl Print) {
+    let mut flags = [7u32; 6];
+    let mut items = [7u32; 4];
+    let mut set = LitSet::new(&mut flags, &mut items);
+    put(&mut set, 5);
+    put(&mut set, 0);
+    put(&mut set, 5);
+    put(&mut set, 3);
+    members(rt, &set);
+    set.clear();
+    members(rt, &set);
+    put(&mut set, 5);
+    members(rt, &set);
 }
 
 fn main(rt: HostRuntime) {
     terms(&rt, 0, 15);
     terms(&rt, 1021, 1026);
     terms(&rt, 2044, 2048);
-    let mut act = [1.0f64; 3];
-    let inc = activity::initial(&mut act);
-    let once = bumps(&mut act, Var(1), inc, 1);
-    activities(&rt, &act, once);
-    let more = bumps(&mut act, Var(2), once, 5000);
-    activities(&rt, &act, more);
-    picks(&rt, &act);
-    let mut cells = [7u32; 10];
-    sets(&rt, Size { lits: 6, room: 4 }, &mut cells);
+    activities(&rt, 0);
+    activities(&rt, 5000);
+    picks(&rt, 5000);
+    sets(&rt);
 }

@@ -1,46 +1,51 @@
 -- Rule 5: what comes of the clause in the buffer.
-use Rattle.std.specs.Prelude.{ℕ, suc, ◌+◌, ◌*◌, ◌≤◌, ◌≡◌, refl, ◌≢◌, Bool, true, false, ◌&&◌, List, [], ◌∷◌, length, get_or, take, drop, Float}
-use Rattle.std.proofs.Common.{arith, sym, ◌∙◌, subst, true≢false, length-take, length-take-le}
-use Rattle.std.proofs.Math.Path.{ap}
-use Rattle.std.specs.Prelude.{Option, None as none, Some as some}
-use Rattle.std.proofs.Math.Seq.{slice, slice_empty, slice-cons}
-use Rattle.std.proofs.Math.Dec.{ltb, leb}
+use Rattle.std.specs.Prelude.{ℕ, suc, ◌+◌, ◌≤◌, ◌≡◌, refl, ◌≢◌, Bool, true, false, ◌&&◌, List, [], ◌∷◌, length, get_or, drop, ltb, leb, Option, None as none, Some as some, Result, MatchResult}
+use Rattle.std.proofs.Common.{arith, sym, ap, ◌∙◌, subst, true≢false, drop-cons}
 use Rattle.model.specs.Lit.{var, neg}
 use Rattle.model.specs.Script as Script
-use Rattle.model.specs.State.{State}
+use Rattle.model.specs.State as ms
+use Rattle.model.specs.State.{Activity}
 use Rattle.model.specs.Store.{stored_literals, has_room}
 use Rattle.model.specs.Search.{add_learnt_and_backtrack}
 use Rattle.lawbase.specs.Basics.{neg-neg, var-neg}
-use Rattle.assign.specs.Learn.{Asserting, with_unit, with_learnt}
+use Rattle.assign.specs.Learn.{Asserting, with_learnt}
 use Rattle.assign.proofs.Learn.{learn_unit, learn_cases}
 use Rattle.learning.specs.FirstUip.{Conflict}
 use Rattle.learning.specs.Analyzed.{Analyzed}
 use Rattle.learning.proofs.Analyzed.{analyze_law}
-use Rattle.activity.specs.Activities.{activity}
-use Rattle.state.specs.Still.{Still, Has, state_at, config_of}
-use Rattle.state.specs.declared.Header.{Header}
 use Rattle.state.specs.declared.Config.{Config}
-use Rattle.analyze.specs.Resolving.{buffer_length}
+use Rattle.state.specs.declared.State.{State}
+use Rattle.state.specs.Still.{Still, Has, Beside, state_at, config_of}
 use Rattle.analyze.specs.Uip.{solver}
-use Rattle.learn.specs.declared.Learnt.{Learnt}
-use Rattle.learn.specs.declared.Backed.{Backed}
 use Rattle.learn.specs.Learned.{learnt_of, Learned}
-use Rattle.learn.specs.Reducing.{head_first, first_kept}
-use Rattle.learn.specs.Backtracking.{buffer_at, Storable}
+use Rattle.learn.specs.Reducing.{head_first}
+use Rattle.learn.specs.Backtracking.{uip_in, Unit, unit_of, Learnable, learnt_at}
 
--- the definition's step with the buffer's first n literals
-abbrev pub added_to : Config → Header → List ℕ → ℕ → ℕ → Option State
-added_to g h w n level = add_learnt_and_backtrack (config_of g) (state_at g h w) (take n (buffer_at g h w)) level
+-- the definition's step with the buffer's literals
+abbrev pub added_to : State → ℕ → Option ms.State
+added_to s level = add_learnt_and_backtrack (config_of s.config) (state_at s) s.scratch.buffer.items level
 
-abbrev Outcome : Config → Header → List ℕ → ℕ → ℕ → List ℕ → Backed → Type 0
-Outcome g h w n level w' Backed.NoStorage = (added_to g h w n level ≡ none) × Has g h w' (state_at g h w)
-Outcome g h w n level w' (Backed.Back r) = (s : State) × ((added_to g h w n level ≡ some s) × Has g r w' s)
+-- the buffer has a learnt clause, to go back to `level` with
+pub record Backable (s : State) (level : ℕ) : Type 0 where
+  pub still : Still s
+  pub analyzed : Analyzed s.config.vars (state_at s).store (state_at s).vars s.scratch.buffer.items level
 
--- the slice holds what the definition gives
-pub record Backs (g : Config) (h : Header) (w : List ℕ) (n level : ℕ) (w' : List ℕ) (r : Backed) : Type 0 where
-  pub outcome : Outcome g h w n level w' r
+-- the state is what the definition gives
+pub record Back (s s' : State) (level : ℕ) : Type 0 where
+  pub state : ms.State
+  pub is : added_to s level ≡ some state
+  pub has : Has s' state
+  pub beside : Beside s s'
 
-module _ (cfg : Script.Config) (s : State) (uip level second : ℕ) (more : List ℕ) where
+-- there is no room, and nothing is done
+pub record Full (s s' : State) (level : ℕ) : Type 0 where
+  pub is : added_to s level ≡ none
+  pub same : s' ≡ s
+
+abbrev pub Backs : {T E : Type 0} → State → State → ℕ → Result T E → Type 0
+Backs s s' level r = MatchResult r (λ _. Back s s' level) (λ _. Full s s' level)
+
+module _ (cfg : Script.Config) (s : ms.State) (uip level second : ℕ) (more : List ℕ) where
   learn_stored : has_room cfg s.store (uip ∷ second ∷ more) ≡ true
       → add_learnt_and_backtrack cfg s (uip ∷ second ∷ more) level ≡ some (with_learnt cfg.phase s level uip (second ∷ more))
   learn_stored t =
@@ -52,144 +57,138 @@ module _ (cfg : Script.Config) (s : State) (uip level second : ℕ) (more : List
 level_neg : (levels : List ℕ) (l : ℕ) → get_or levels (var (neg l)) 0 ≡ get_or levels (var l) 0
 level_neg levels l = ap (λ v. get_or levels v 0) (var-neg l)
 
-module _ (g : Config) (h : Header) (w : List ℕ) (n level : ℕ) (s : Still g h w)
-    (a : Analyzed g.sizes.vars (state_at g h w).store (state_at g h w).vars (take n (buffer_at g h w)) level) where
+module _ (s : State) (level : ℕ) (p : Backable s level) where
   abbrev b : List ℕ
-  b = buffer_at g h w
+  b = s.scratch.buffer.items
 
-  abbrev u : ℕ
-  u = get_or (buffer_at g h w) 0 0
+  abbrev a : Analyzed s.config.vars (state_at s).store (state_at s).vars s.scratch.buffer.items level
+  a = p.analyzed
 
-  counted : length (take n b) ≡ suc (length a.rest)
-  counted = ap length a.is
+  counted : length b ≡ suc (length p.analyzed.rest)
+  counted = ap length p.analyzed.is
 
-  pub cells : n ≤ 2 * g.sizes.vars
-  cells = omega (arith, length-take n b, buffer_length g.sizes h w s.rep, a.short, s.rep.room.some)
+  pub some_lit : 1 ≤ length s.scratch.buffer.items
+  some_lit = omega (arith, counted)
 
-  long : n ≤ length b
-  long = omega (arith, cells, buffer_length g.sizes h w s.rep)
+  uip_is : uip_in s ≡ neg p.analyzed.uip
+  uip_is = ap (λ (y : List ℕ). get_or y 0 0) p.analyzed.is
 
-  size_is : length (take n b) ≡ n
-  size_is = length-take-le n b long
+  rest_is : drop 1 b ≡ p.analyzed.rest
+  rest_is = ap (drop 1) p.analyzed.is
 
-  some_lit : 1 ≤ n
-  some_lit = omega (arith, counted, size_is)
-
-  uip_is : u ≡ neg a.uip
-  uip_is = sym (first_kept b n some_lit) ∙ ap (λ (y : List ℕ). get_or y 0 0) a.is
-
-  rest_is : slice 1 n b ≡ a.rest
-  rest_is = ap (drop 1) a.is
-
-  asserts : Asserting (state_at g h w).vars level u (slice 1 n b)
+  asserts : Asserting (state_at s).vars level (uip_in s) (drop 1 b)
   asserts =
       rw (uip_is, rest_is)
       (record {
-        false_first = rw neg-neg a.uip_set;
-        above = omega (arith, level_neg (state_at g h w).vars.levels a.uip, a.uip_top, a.lower);
-        false_rest = a.falsified;
-        low = a.below;
+        false_first = rw neg-neg p.analyzed.uip_set;
+        above = omega (arith, level_neg (state_at s).vars.levels p.analyzed.uip, p.analyzed.uip_top, p.analyzed.lower);
+        false_rest = p.analyzed.falsified;
+        low = p.analyzed.below;
       })
 
-  clause_is : take n b ≡ u ∷ slice 1 n b
-  clause_is = head_first b n some_lit long
+  clause_is : b ≡ uip_in s ∷ drop 1 b
+  clause_is = head_first b some_lit
 
-  module _ (e : n ≡ 1) where
-    no_rest : slice 1 n b ≡ []
-    no_rest = rw e (slice_empty 1 b)
+  module _ (e : length s.scratch.buffer.items ≡ 1) where
+    no_rest : drop 1 b ≡ []
+    no_rest = none_behind b e
+      where
+        none_behind : (l : List ℕ) → length l ≡ 1 → drop 1 l ≡ []
+        none_behind [] e = refl
+        none_behind (x ∷ []) e = refl
+        none_behind (x ∷ y ∷ l) e = absurd (omega (arith, e))
 
     -- a unit
-    pub unit_asserts : Asserting (state_at g h w).vars 0 (get_or (buffer_at g h w) 0 0) []
-    unit_asserts =
-        let y : level ≡ 0 = a.unit.1 (sym rest_is ∙ no_rest) in
-        subst (λ (m : ℕ). Asserting (state_at g h w).vars m u []) y (subst (λ (r : List ℕ). Asserting (state_at g h w).vars level u r) no_rest asserts)
-
-    pub backs_unit : (w' : List ℕ) (r : Header) → Has g r w' (with_unit g.phase (state_at g h w) (get_or (buffer_at g h w) 0 0)) → Backs g h w n level w' (Backed.Back r)
-    backs_unit w' r k =
+    pub unit_asks : Unit s
+    unit_asks =
+        let y : level ≡ 0 = p.analyzed.unit.1 (sym rest_is ∙ no_rest) in
         record {
-          outcome = (
-            with_unit g.phase (state_at g h w) u,
-            (
-              ap (λ (c : List ℕ). add_learnt_and_backtrack (config_of g) (state_at g h w) c level) (clause_is ∙ ap (λ (y : List ℕ). u ∷ y) no_rest)
-                  ∙ learn_unit (config_of g) (state_at g h w) u level,
-              k,
-            ),
-          );
+          still = p.still;
+          some = some_lit;
+          asserting = subst (λ (m : ℕ). Asserting (state_at s).vars m (uip_in s) []) y (subst (λ (r : List ℕ). Asserting (state_at s).vars level (uip_in s) r) no_rest asserts);
         }
 
-  module _ (ne : n ≢ 1) where
-    two : 2 ≤ n
+    pub backs_unit : (s' : State) → Has s' (unit_of s) → Beside s s' → Back s s' level
+    backs_unit s' k d =
+        record {
+          state = unit_of s;
+          is =
+              ap (λ (c : List ℕ). add_learnt_and_backtrack (config_of s.config) (state_at s) c level) (clause_is ∙ ap (λ (y : List ℕ). uip_in s ∷ y) no_rest)
+              ∙ learn_unit (config_of s.config) (state_at s) (uip_in s) level;
+          has = k;
+          beside = d;
+        }
+
+  module _ (ne : length s.scratch.buffer.items ≢ 1) where
+    two : 2 ≤ length b
     two = omega (arith, some_lit, ne)
 
-    abbrev t : Bool
-    t = ltb (length (state_at g h w).store.clauses) g.sizes.room && leb (stored_literals (state_at g h w).store.clauses + n) g.sizes.lit_room
+    rest_cons : drop 1 b ≡ get_or b 1 0 ∷ drop 2 b
+    rest_cons = drop-cons b 1 0 (omega (arith, two))
 
-    room_is : has_room (config_of g) (state_at g h w).store (take n b) ≡ t
-    unfolding has_room
-    room_is = ap (λ (m : ℕ). ltb (length (state_at g h w).store.clauses) g.sizes.room && leb (stored_literals (state_at g h w).store.clauses + m) g.sizes.lit_room) size_is
+    all_is : b ≡ uip_in s ∷ get_or b 1 0 ∷ drop 2 b
+    all_is = clause_is ∙ ap (λ (y : List ℕ). uip_in s ∷ y) rest_cons
 
-    rest_cons : slice 1 n b ≡ get_or b 1 0 ∷ slice 2 n b
-    rest_cons = slice-cons 1 n b 0 (omega (arith, two)) long
+    module _ (r : Bool) (f : r ≡ (ltb (length s.clauses.clauses) s.clauses.room && leb (stored_literals s.clauses.clauses + length s.scratch.buffer.items) s.clauses.lit_room)) where
+      room_is : has_room (config_of s.config) (state_at s).store b ≡ r
+      unfolding has_room
+      room_is = rw (← p.still.sized.clauses, ← p.still.sized.literals) (sym f)
 
-    all_is : take n b ≡ u ∷ get_or b 1 0 ∷ slice 2 n b
-    all_is = clause_is ∙ ap (λ (y : List ℕ). u ∷ y) rest_cons
-
-    module _ (r : Bool) (f : r ≡ t) where
       -- there is room
-      pub clause_storable : r ≡ true → Storable g h w n level
-      clause_storable o =
+      pub clause_asks : r ≡ true → Learnable s level
+      clause_asks o =
           record {
+            still = p.still;
             two = two;
-            cells = cells;
             asserting = asserts;
-            proper = record { two = omega (arith, size_is, two); range = a.range; distinct = a.distinct };
-            room = room_is ∙ sym f ∙ o;
+            proper = record { two = two; range = p.analyzed.range; distinct = p.analyzed.distinct };
+            room = room_is ∙ o;
           }
 
-      pub backs_stored : r ≡ true → (w' : List ℕ) (k : Header) → Has g k w' (with_learnt g.phase (state_at g h w) level (get_or (buffer_at g h w) 0 0) (slice 1 n (buffer_at g h w)))
-          → Backs g h w n level w' (Backed.Back k)
-      backs_stored o w' k v =
+      pub backs_stored : r ≡ true → (s' : State) → Has s' (learnt_at s level) → Beside s s' → Back s s' level
+      backs_stored o s' v d =
           record {
-            outcome = (
-              with_learnt g.phase (state_at g h w) level u (slice 1 n b),
-              (
-                ap (λ (c : List ℕ). add_learnt_and_backtrack (config_of g) (state_at g h w) c level) all_is
-                    ∙ learn_stored (config_of g) (state_at g h w) u level (get_or b 1 0) (slice 2 n b)
-                    (ap (has_room (config_of g) (state_at g h w).store) (sym all_is) ∙ room_is ∙ sym f ∙ o)
-                    ∙ ap (λ (y : List ℕ). some (with_learnt g.phase (state_at g h w) level u y)) (sym rest_cons),
-                v,
-              ),
-            );
+            state = learnt_at s level;
+            is =
+                ap (λ (c : List ℕ). add_learnt_and_backtrack (config_of s.config) (state_at s) c level) all_is
+                ∙ learn_stored (config_of s.config) (state_at s) (uip_in s) level (get_or b 1 0) (drop 2 b)
+                (ap (has_room (config_of s.config) (state_at s).store) (sym all_is) ∙ room_is ∙ o)
+                ∙ ap (λ (y : List ℕ). some (with_learnt s.config.phase (state_at s) level (uip_in s) y)) (sym rest_cons);
+            has = v;
+            beside = d;
           }
 
       -- there is none
-      pub backs_none : r ≡ false → Backs g h w n level w Backed.NoStorage
+      pub backs_none : r ≡ false → Full s s level
       backs_none o =
           record {
-            outcome = (
-              ap (λ (c : List ℕ). add_learnt_and_backtrack (config_of g) (state_at g h w) c level) all_is
-                  ∙ learn_full (config_of g) (state_at g h w) u level (get_or b 1 0) (slice 2 n b)
-                  (ap (has_room (config_of g) (state_at g h w).store) (sym all_is) ∙ room_is ∙ sym f ∙ o),
-              record { still = s; state = refl },
-            );
+            is =
+                ap (λ (c : List ℕ). add_learnt_and_backtrack (config_of s.config) (state_at s) c level) all_is
+                ∙ learn_full (config_of s.config) (state_at s) (uip_in s) level (get_or b 1 0) (drop 2 b)
+                (ap (has_room (config_of s.config) (state_at s).store) (sym all_is) ∙ room_is ∙ o);
+            same = refl;
           }
 
 -- after `analyze`
-module _ (g : Config) (h : Header) (w : List ℕ) (acts : List Float) (inc : Float) (confl : ℕ) (w' : List ℕ) (acts' : List Float) (r : Learnt)
-    (l : Learned g h w acts inc confl w' acts' r) where
+module _ (s s' : State) (act act' : Activity) (confl r : ℕ) (l : Learned s s' act act' confl r) where
   -- the clause in the buffer is as the laws say
-  pub learned_analyzed : Conflict g.sizes.vars (state_at g h w).store (state_at g h w).vars confl
-      → Analyzed g.sizes.vars (state_at g h w').store (state_at g h w').vars (take r.size (buffer_at g h w')) r.level
-  learned_analyzed c =
-      let y = analyze_law (config_of g) (solver (state_at g h w) (activity acts inc)) confl c in
-      subst (λ (s : State). Analyzed g.sizes.vars s.store s.vars (take r.size (buffer_at g h w')) r.level) (sym l.has.state)
-      (subst (λ (k : List ℕ). Analyzed g.sizes.vars (state_at g h w).store (state_at g h w).vars k r.level) (sym l.clause)
-      (subst (λ (v : ℕ). Analyzed g.sizes.vars (state_at g h w).store (state_at g h w).vars (learnt_of g h w acts inc confl).clause v) (sym l.level) y))
+  pub learned_backable : Conflict s.config.vars (state_at s).store (state_at s).vars confl → Backable s' r
+  learned_backable c =
+      let y = analyze_law (config_of s.config) (solver (state_at s) act) confl c in
+      let g : s'.config ≡ s.config = ap (λ (y : State). y.config) l.beside in
+      record {
+        still = l.has.still;
+        analyzed =
+            subst (λ (n : ℕ). Analyzed n (state_at s').store (state_at s').vars s'.scratch.buffer.items r) (sym (ap (λ (h : Config). h.vars) g))
+            (subst (λ (t : ms.State). Analyzed s.config.vars t.store t.vars s'.scratch.buffer.items r) (sym l.has.state)
+            (subst (λ (k : List ℕ). Analyzed s.config.vars (state_at s).store (state_at s).vars k r) (sym l.clause)
+            (subst (λ (v : ℕ). Analyzed s.config.vars (state_at s).store (state_at s).vars (learnt_of s act confl).clause v) (sym l.level) y)));
+      }
 
   -- and the step with it is the definition's
-  pub learned_step : added_to g h w' r.size r.level
-      ≡ add_learnt_and_backtrack (config_of g) (state_at g h w) (learnt_of g h w acts inc confl).clause (learnt_of g h w acts inc confl).level
+  pub learned_step : added_to s' r ≡ add_learnt_and_backtrack (config_of s.config) (state_at s) (learnt_of s act confl).clause (learnt_of s act confl).level
   learned_step =
-      ap (λ (s : State). add_learnt_and_backtrack (config_of g) s (take r.size (buffer_at g h w')) r.level) l.has.state
-      ∙ ap (λ (k : List ℕ). add_learnt_and_backtrack (config_of g) (state_at g h w) k r.level) l.clause
-      ∙ ap (λ (v : ℕ). add_learnt_and_backtrack (config_of g) (state_at g h w) (learnt_of g h w acts inc confl).clause v) l.level
+      ap (λ (y : State). add_learnt_and_backtrack (config_of y.config) (state_at s') s'.scratch.buffer.items r) l.beside
+      ∙ ap (λ (t : ms.State). add_learnt_and_backtrack (config_of s.config) t s'.scratch.buffer.items r) l.has.state
+      ∙ ap (λ (k : List ℕ). add_learnt_and_backtrack (config_of s.config) (state_at s) k r) l.clause
+      ∙ ap (λ (v : ℕ). add_learnt_and_backtrack (config_of s.config) (state_at s) (learnt_of s act confl).clause v) l.level

@@ -1,202 +1,209 @@
 -- `analyze`: the clause that is learnt, in the buffer.
-use Rattle.std.specs.Prelude.{ℕ, suc, ◌+◌, ◌*◌, ◌≤◌, ◌<◌, ◌≡◌, List, [], ◌∷◌, length, get_or, take, drop, replicate, Float}
-use Rattle.std.proofs.Common.{arith, ap, ◌∙◌, subst}
-use Rattle.std.proofs.Math.Path.{sym}
-use Rattle.std.proofs.lemmas.List.Edits.{sets}
-use Rattle.std.proofs.Math.Seq.{slice, length-slice}
+use Rattle.std.specs.Prelude.{ℕ, ◌≤◌, ◌<◌, ◌≡◌, refl, List, [], ◌∷◌, length, get_or, drop, replicate}
+use Rattle.std.proofs.Common.{arith, ap, ◌∙◌, subst, sym, length-set}
+use Rattle.std.proofs.Math.Seq.{length-sets}
 use Rattle.model.specs.Lit.{neg}
-use Rattle.model.specs.State.{VarState, State}
+use Rattle.model.specs.State.{Activity, VarState}
 use Rattle.model.specs.Minimise.{minimize_conflict}
-use Rattle.model.specs.Analyze as model
-use Rattle.model.specs.Analyze.{Resolvent, highest_first, backtrack_level}
+use Rattle.model.specs.Analyze as analysis
+use Rattle.model.specs.Analyze.{Resolvent, first_uip, highest_first, backtrack_level}
 use Rattle.lawbase.specs.Basics.{◌∈◌, var-neg}
-use Rattle.lawbase.specs.WellFormed.{WellFormed, Distinct}
+use Rattle.lawbase.specs.WellFormed.{Distinct}
 use Rattle.assign.proofs.Lists.{get_or_in}
 use Rattle.assign.proofs.Reading.{trail_var}
 use Rattle.learning.specs.FirstUip.{Conflict}
 use Rattle.learning.specs.Walk.{Stop}
-use Rattle.learning.proofs.Highest.{highest_first_law, headed_length}
 use Rattle.learning.specs.Minimise.{Minimisable}
 use Rattle.learning.proofs.Minimise.{minimize_sub, sub_in}
 use Rattle.learning.proofs.Analyzed.{minimisable}
-use Rattle.activity.specs.Activities.{activity}
 use Rattle.trail.specs.View.{LitsOf}
-use Rattle.scratch.specs.View.{Scratch}
-use Rattle.state.specs.Reasons.{Filled}
-use Rattle.state.specs.View.{Whole, whole, state_of, Rep, with_scratch}
-use Rattle.state.specs.Still.{Idle, Still, Has, state_at, config_of}
-use Rattle.state.specs.declared.Header.{Header}
-use Rattle.state.specs.declared.Config.{Config}
-use Rattle.analyze.specs.declared.Joined.{Joined}
-use Rattle.analyze.specs.Resolving.{Resolving, buffer_length}
-use Rattle.analyze.specs.Uip.{uip_of, solver}
-use Rattle.analyze.specs.Second.{Seconded}
-use Rattle.analyze.specs.After.{stop, after_room, after_some, after_clause, after_rest}
-use Rattle.minimise.specs.Minimised.{Ready}
-use Rattle.learn.specs.declared.Learnt.{Learnt}
-use Rattle.learn.specs.Reducing.{Reduced, put_behind, first_kept}
+use Rattle.scratch.specs.declared.Scratch.{Scratch}
+use Rattle.scratch.specs.Row.{Row}
+use Rattle.state.specs.declared.State.{State}
+use Rattle.state.specs.Still.{Still, Has, state_at, config_of}
+use Rattle.analyze.specs.Uip.{Conflicted, Uip, solver}
+use Rattle.analyze.specs.Resolving.{laid}
+use Rattle.analyze.specs.Second.{Seconded, swapped}
+use Rattle.analyze.specs.After.{stop, after, after_clause, after_some, after_sized, conflict_at}
+use Rattle.minimise.specs.Minimised.{Ready, minimisable_in}
+use Rattle.minimise.specs.Redundant.{Filled}
+use Rattle.learn.specs.Reducing.{with_scratch, Roomy, Reduced}
 
--- the definition's `analyze`, of what the slices hold
-abbrev pub learnt_of : Config → Header → List ℕ → List Float → Float → ℕ → model.Learnt
-learnt_of g h w acts inc confl = model.analyze (config_of g) (solver (state_at g h w) (activity acts inc)) confl
+-- a change of places leaves the room
+swapped_length : (vs : VarState) (ls cells : List ℕ) → length (swapped vs ls cells) ≡ length cells
+swapped_length vs [] cells = refl
+swapped_length vs (l ∷ ls) cells = length-set _ _ _ ∙ length-set cells 1 _
 
--- the clause is the first in the buffer, and the state is as it was
-pub record Learned (g : Config) (h : Header) (w : List ℕ) (acts : List Float) (inc : Float) (confl : ℕ) (w' : List ℕ) (acts' : List Float) (r : Learnt) : Type 0 where
-  pub size : r.size ≡ length (learnt_of g h w acts inc confl).clause
-  pub clause : take r.size (whole g.sizes h w').scratch.buffer ≡ (learnt_of g h w acts inc confl).clause
-  pub level : r.level ≡ (learnt_of g h w acts inc confl).level
-  pub activity : activity acts' r.inc ≡ (learnt_of g h w acts inc confl).activity
-  pub has : Has g h w' (state_at g h w)
+-- the definition's `analyze`
+abbrev pub learnt_of : State → Activity → ℕ → analysis.Learnt
+learnt_of s a confl = analysis.analyze (config_of s.config) (solver (state_at s) a) confl
+
+-- clause confl is false, and nothing is half done
+pub record Conflicting (s : State) (a : Activity) (confl : ℕ) : Type 0 where
+  pub still : Still s
+  pub conflict : Conflict s.config.vars (state_at s).store (state_at s).vars confl
+  pub sized : length a.activities ≡ s.config.vars
+
+-- the clause is the buffer's, and the state is as it was
+pub record Learned (s s' : State) (a a' : Activity) (confl r : ℕ) : Type 0 where
+  pub beside : s' ≡ with_scratch s s'.scratch
+  pub clause : s'.scratch.buffer.items ≡ (learnt_of s a confl).clause
+  pub level : r ≡ (learnt_of s a confl).level
+  pub activity : a' ≡ (learnt_of s a confl).activity
+  pub sized : length a'.activities ≡ length a.activities
+  pub has : Has s' (state_at s)
 
 -- another scratch block without marks
-pub still_scratch : (g : Config) (h : Header) (w w' : List ℕ) (s : Scratch) → Still g h w → Rep g.sizes h w'
-    → whole g.sizes h w' ≡ with_scratch (whole g.sizes h w) s → s.marks ≡ replicate g.sizes.vars 0 → Has g h w' (state_at g h w)
-still_scratch g h w w' s q r e m =
-    let t : state_at g h w' ≡ state_at g h w = ap (state_of h) e in
-    let i : Idle g.sizes.vars (with_scratch (whole g.sizes h w) s) =
-    record { marks = m; final = q.idle.final; pushed = q.idle.pushed; nodes = q.idle.nodes } in
+pub still_scratch : (s : State) (x : Scratch) → Still s → Roomy s.scratch x → x.marks ≡ replicate s.config.vars 0 → Has (with_scratch s x) (state_at s)
+still_scratch s x k r m =
+    let z = k.sized in
     record {
-      still = record { rep = r; idle = subst (Idle g.sizes.vars) (sym e) i; formed = subst (WellFormed (config_of g)) (sym t) q.formed };
-      state = t;
+      still =
+          record {
+            sized =
+                record {
+                  some = z.some;
+                  vars = z.vars;
+                  room = z.room;
+                  lit_room = z.lit_room;
+                  values = z.values;
+                  marks = ap length m ∙ sym (ap length k.idle.marks) ∙ z.marks;
+                  buffer = r.buffer ∙ z.buffer;
+                  stack = r.stack ∙ z.stack;
+                  notes = r.notes ∙ z.notes;
+                  lists = z.lists;
+                  blockers = z.blockers;
+                  chains = z.chains;
+                  clauses = z.clauses;
+                  literals = z.literals;
+                  flags = z.flags;
+                  members = z.members;
+                };
+            idle = record { marks = m; final = k.idle.final; pushed = k.idle.pushed; nodes = k.idle.nodes };
+            formed = k.formed;
+          };
+      state = refl;
     }
 
-module _ (g : Config) (h : Header) (w : List ℕ) (acts : List Float) (inc : Float) (confl : ℕ) (s : Still g h w)
-    (c : Conflict g.sizes.vars (state_at g h w).store (state_at g h w).vars confl) (w₀ : List ℕ) (acts₀ : List Float) (r₀ : Joined)
-    (u : Resolving g.sizes h (whole g.sizes h w) 0 w₀ acts₀ r₀ (uip_of g h w acts inc confl)) where
-  abbrev k : Resolvent
-  k = uip_of g h w acts inc confl
+module _ (s : State) (a : Activity) (confl : ℕ) (p : Conflicting s a confl) where
+  abbrev n : ℕ
+  n = length s.trail.vars.values
 
-  abbrev x : Whole
-  x = whole g.sizes h w
+  vars_is : s.config.vars ≡ n
+  vars_is = sym p.still.sized.values
 
-  abbrev x₀ : Whole
-  x₀ = whole g.sizes h w₀
-
-  ends : Stop g.sizes.vars (state_at g h w).store (state_at g h w).vars confl k
-  ends = stop g h w acts inc confl s.rep c w₀ acts₀ r₀ u
-
-  rest_is : slice 1 r₀.learnt x₀.scratch.buffer ≡ drop 1 k.learnt
-  rest_is = after_rest g h w acts inc confl s.rep c w₀ acts₀ r₀ u
-
-  seen_is : x₀.scratch.marks ≡ k.seen
-  seen_is = ap (λ (y : Whole). y.scratch.marks) u.held.whole
-
-  first_is : get_or x₀.scratch.buffer 0 0 ≡ get_or k.learnt 0 0
-  first_is =
-      sym (first_kept x₀.scratch.buffer r₀.learnt (after_some g h w acts inc confl s.rep c w₀ acts₀ r₀ u))
-      ∙ ap (λ (y : List ℕ). get_or y 0 0) (after_clause g h w acts inc confl s.rep c w₀ acts₀ r₀ u)
-
-  goes : Minimisable g.sizes.vars (state_at g h w).store (state_at g h w).vars (drop 1 k.learnt) k.seen
-  goes = minimisable g.sizes.vars (state_at g h w).store (state_at g h w).vars confl c k ends 2
-
-  apart : Distinct (drop 1 k.learnt)
-  apart = rw ends.first.learnt (rw ends.first.learnt at ends.first.distinct).1
-
-  state_is : state_of h x₀ ≡ state_at g h w
-  state_is = ap (state_of h) u.held.whole
-
-  filled : Filled (state_at g h w).store.clauses
-  filled n b =
-      let cs = (state_at g h w).store.clauses in
-      omega (arith, (s.formed.store.proper (get_or cs n []) (get_or_in cs n [] b)).two)
-
-  -- what minimising asks
-  pub ready : Ready g.sizes h (whole g.sizes h w₀) r₀.learnt
-  ready =
+  pub analysable : Conflicted s.trail s.clauses s.scratch a confl
+  analysable =
+      let z = p.still.sized in
       record {
-        some = after_some g h w acts inc confl s.rep c w₀ acts₀ r₀ u;
-        most = after_room g h w acts inc confl s.rep c w₀ acts₀ r₀ u;
-        clause =
-            subst (λ (y : State). Minimisable g.sizes.vars y.store y.vars (slice 1 r₀.learnt x₀.scratch.buffer) x₀.scratch.marks) (sym state_is)
-            (rw (rest_is, seen_is) goes);
-        distinct = rw rest_is apart;
-        filled = subst (λ (y : State). Filled y.store.clauses) (sym state_is) filled;
+        sized = record { most = omega (arith, z.values, z.vars); buffer = omega (arith, z.values, z.buffer, z.some); activity = p.sized ∙ vars_is };
+        marks = rw vars_is at p.still.idle.marks;
+        proper = rw vars_is at p.still.formed.store.proper;
+        conflict = conflict_at (config_of s.config) (state_at s) s.trail s.clauses confl vars_is refl refl p.conflict;
       }
 
-  module _ (w₁ : List ℕ) (n : ℕ) (m : Reduced g h (whole g.sizes h w₀) r₀.learnt w₁ n) where
-    abbrev x₁ : Whole
-    x₁ = whole g.sizes h w₁
+  -- the resolvent at the first UIP
+  abbrev k : Resolvent
+  k = first_uip (config_of s.config) (solver (state_at s) a) confl
 
-    abbrev left : List ℕ
-    left = minimize_conflict g.mode (state_at g h w).store (state_at g h w).vars (drop 1 k.learnt) k.seen
+  module _ (x : Scratch) (a₁ : Activity) (u : Uip s.trail s.clauses s.scratch x a a₁ confl) where
+    ends : Stop s.config.vars (state_at s).store (state_at s).vars confl k
+    ends = stop (config_of s.config) (state_at s) s.trail s.clauses confl vars_is refl refl p.conflict s.scratch x a a₁ u
 
-    left_is : minimize_conflict g.mode (state_of h x₀).store x₀.assignment.vars (slice 1 r₀.learnt x₀.scratch.buffer) x₀.scratch.marks ≡ left
-    left_is =
-        ap (λ (y : State). minimize_conflict g.mode y.store y.vars (slice 1 r₀.learnt x₀.scratch.buffer) x₀.scratch.marks) state_is
-        ∙ ap (λ (y : List ℕ). minimize_conflict g.mode (state_at g h w).store (state_at g h w).vars y x₀.scratch.marks) rest_is
-        ∙ ap (λ (y : List ℕ). minimize_conflict g.mode (state_at g h w).store (state_at g h w).vars (drop 1 k.learnt) y) seen_is
+    laid_is : x ≡ laid s.scratch k
+    laid_is = (after (config_of s.config) (state_at s) s.trail s.clauses confl vars_is refl refl p.conflict s.scratch x a a₁ u).scratch
 
-    short : n ≤ g.sizes.vars
-    short = omega (arith, m.most, after_room g h w acts inc confl s.rep c w₀ acts₀ r₀ u)
+    clause_is : x.buffer.items ≡ k.learnt
+    clause_is = after_clause (config_of s.config) (state_at s) s.trail s.clauses confl vars_is refl refl p.conflict s.scratch x a a₁ u
 
-    fits : n ≤ length x₁.scratch.buffer
-    fits = omega (arith, short, buffer_length g.sizes h w₁ m.beside.rep)
+    seen_is : x.marks ≡ k.seen
+    seen_is = ap (λ (y : Scratch). y.marks) laid_is
 
-    left_at : slice 1 n x₁.scratch.buffer ≡ left
-    left_at = ap (drop 1) m.clause ∙ left_is
+    some : 1 ≤ length x.buffer.items
+    some = after_some (config_of s.config) (state_at s) s.trail s.clauses confl vars_is refl refl p.conflict s.scratch x a a₁ u
 
-    uip_at : get_or x₁.scratch.buffer 0 0 ≡ get_or k.learnt 0 0
-    uip_at = sym (first_kept x₁.scratch.buffer n m.some) ∙ ap (λ (y : List ℕ). get_or y 0 0) m.clause ∙ first_is
+    goes : Minimisable s.config.vars (state_at s).store (state_at s).vars (drop 1 k.learnt) k.seen
+    goes = minimisable s.config.vars (state_at s).store (state_at s).vars confl p.conflict k ends 2
 
-    left_size : 1 + length left ≡ n
-    left_size = omega (arith, ap length left_at, length-slice 1 n x₁.scratch.buffer fits, m.some)
+    apart : Distinct (drop 1 k.learnt)
+    apart = rw ends.first.learnt (rw ends.first.learnt at ends.first.distinct).1
 
-    left_lits : LitsOf g.sizes.vars left
-    left_lits i b =
-        let q = get_or left i 0 in
-        let j : q ∈ drop 1 k.learnt =
-        sub_in (minimize_sub g.sizes.vars (state_at g h w).store (state_at g h w).vars (drop 1 k.learnt) k.seen goes g.mode) q (get_or_in left i 0 b) in
-        subst (λ (v : ℕ). v < g.sizes.vars) (var-neg q) (trail_var c.assignment (neg q) (goes.falsified q j))
+    filled : Filled s.clauses.clauses
+    filled c b =
+        let cs = s.clauses.clauses in
+        omega (arith, (p.still.formed.store.proper (get_or cs c []) (get_or_in cs c [] b)).two)
 
-    -- what the change of places asks
-    pub second_asks : Rep g.sizes h w₁ × ((n ≤ 2 * g.sizes.vars) × LitsOf g.sizes.vars (slice 1 n (whole g.sizes h w₁).scratch.buffer))
-    second_asks = (m.beside.rep, (omega (arith, short), subst (LitsOf g.sizes.vars) (sym left_at) left_lits))
+    -- what minimising asks
+    pub ready : Ready s.trail s.clauses x
+    ready =
+        let z = p.still.sized in
+        record {
+          some = some;
+          clause = rw (clause_is, seen_is, ← vars_is) (minimisable_in goes []);
+          distinct = rw clause_is apart;
+          filled = filled;
+          stack = omega (arith, ap (λ (y : Scratch). length y.stack.cells) laid_is, z.stack, z.values);
+          notes = omega (arith, ap (λ (y : Scratch). length y.notes.cells) laid_is, z.notes, z.values);
+        }
 
-    vars_is : x₁.assignment.vars ≡ (state_at g h w).vars
-    vars_is = ap (λ (y : Whole). y.assignment.vars) m.beside.same ∙ ap (λ (y : State). y.vars) state_is
+    module _ (t : State) (m : Reduced (with_scratch s x) t) where
+      abbrev left : List ℕ
+      left = minimize_conflict s.config.mode (state_at s).store (state_at s).vars (drop 1 k.learnt) k.seen
 
-    module _ (w₂ : List ℕ) (v : ℕ) (e : Seconded g.sizes h (whole g.sizes h w₁) n w₂ v) where
-      abbrev ordered : List ℕ
-      ordered = highest_first (state_at g h w).vars left
+      reduced_is : t.scratch.buffer.items ≡ get_or k.learnt 0 0 ∷ left
+      reduced_is = rw (clause_is, seen_is) at m.clause
 
-      ordered_is : highest_first x₁.assignment.vars (slice 1 n x₁.scratch.buffer) ≡ ordered
-      ordered_is =
-          ap (λ (y : VarState). highest_first y (slice 1 n x₁.scratch.buffer)) vars_is
-          ∙ ap (highest_first (state_at g h w).vars) left_at
+      left_lits : LitsOf s.config.vars left
+      left_lits i b =
+          let q = get_or left i 0 in
+          let j : q ∈ drop 1 k.learnt =
+          sub_in (minimize_sub s.config.vars (state_at s).store (state_at s).vars (drop 1 k.learnt) k.seen goes s.config.mode) q (get_or_in left i 0 b) in
+          subst (λ (v : ℕ). v < s.config.vars) (var-neg q) (trail_var p.conflict.assignment (neg q) (goes.falsified q j))
 
-      ordered_size : suc (length ordered) ≡ n
-      ordered_size = omega (arith, headed_length (highest_first_law (state_at g h w).vars left), left_size)
+      -- what the change of places asks
+      pub second_asks : LitsOf (length t.trail.vars.values) (drop 1 t.scratch.buffer.items)
+      second_asks = rw (reduced_is, ap (λ (y : State). length y.trail.vars.values) m.beside, ← vars_is) left_lits
 
-      buffer_is : (whole g.sizes h w₂).scratch.buffer ≡ sets x₁.scratch.buffer 1 ordered
-      buffer_is = ap (λ (y : Whole). y.scratch.buffer) e.held.whole ∙ ap (sets x₁.scratch.buffer 1) ordered_is
+      module _ (b : Row) (v : ℕ) (e : Seconded t.trail t.scratch.buffer b v) where
+        abbrev ordered : List ℕ
+        ordered = highest_first (state_at s).vars left
 
-      taken : take n (whole g.sizes h w₂).scratch.buffer ≡ get_or k.learnt 0 0 ∷ ordered
-      taken =
-          ap (take n) buffer_is
-          ∙ put_behind x₁.scratch.buffer ordered n (omega (arith, ordered_size)) fits
-          ∙ ap (λ (q : ℕ). q ∷ ordered) uip_at
+        trail_is : t.trail.vars ≡ s.trail.vars
+        trail_is = ap (λ (y : State). y.trail.vars) m.beside
 
-      level_is : v ≡ backtrack_level (state_at g h w).vars ordered
-      level_is =
-          e.level
-          ∙ ap (λ (y : VarState). backtrack_level y (highest_first x₁.assignment.vars (slice 1 n x₁.scratch.buffer))) vars_is
-          ∙ ap (backtrack_level (state_at g h w).vars) ordered_is
+        items_is : b.items ≡ get_or k.learnt 0 0 ∷ ordered
+        items_is = ap (λ (r : Row). r.items) e.buffer ∙ rw (reduced_is, trail_is) refl
 
-      as_it_was : Has g h w₂ (state_at g h w)
-      as_it_was =
-          still_scratch g h w w₂ (whole g.sizes h w₂).scratch s e.held.rep
-          (let o : whole g.sizes h w₂ ≡ with_scratch x₁ (whole g.sizes h w₂).scratch = e.held.whole ∙ ap (λ y. with_scratch x₁ y) (sym (ap (λ (y : Whole). y.scratch) e.held.whole)) in
-          o ∙ ap (λ (y : Whole). with_scratch y (whole g.sizes h w₂).scratch) m.beside.same
-          ∙ ap (λ (y : Whole). with_scratch y (whole g.sizes h w₂).scratch) u.held.whole)
-          (ap (λ (y : Whole). y.scratch.marks) e.held.whole ∙ m.marks)
+        -- the scratch block afterwards
+        abbrev last : Scratch
+        last = record { marks = t.scratch.marks; buffer = b; stack = t.scratch.stack; notes = t.scratch.notes }
 
-      pub learned : Learned g h w acts inc confl w₂ acts₀ (record { size = n; level = v; inc = r₀.inc })
-      unfolding model.analyze
-      learned =
-          record {
-            size = sym ordered_size;
-            clause = taken;
-            level = level_is;
-            activity = u.activity;
-            has = as_it_was;
-          }
+        beside_is : with_scratch t last ≡ with_scratch s last
+        beside_is = ap (λ (y : State). with_scratch y last) m.beside
+
+        roomy_is : Roomy s.scratch last
+        roomy_is =
+            record {
+              buffer =
+                  ap (λ (r : Row). length r.cells) e.buffer
+                  ∙ swapped_length t.trail.vars (drop 1 t.scratch.buffer.items) t.scratch.buffer.cells
+                  ∙ m.roomy.buffer
+                  ∙ ap (λ (y : Scratch). length y.buffer.cells) laid_is
+                  ∙ length-sets s.scratch.buffer.cells 0 k.learnt;
+              stack = m.roomy.stack ∙ ap (λ (y : Scratch). length y.stack.cells) laid_is;
+              notes = m.roomy.notes ∙ ap (λ (y : Scratch). length y.notes.cells) laid_is;
+            }
+
+        pub learned : Learned s (with_scratch t last) a a₁ confl v
+        unfolding analysis.analyze
+        learned =
+            record {
+              beside = beside_is;
+              clause = items_is;
+              level = e.level ∙ rw (reduced_is, trail_is) refl;
+              activity = (after (config_of s.config) (state_at s) s.trail s.clauses confl vars_is refl refl p.conflict s.scratch x a a₁ u).activity;
+              sized = after_sized (config_of s.config) (state_at s) s.trail s.clauses confl vars_is refl refl p.conflict s.scratch x a a₁ u;
+              has =
+                  subst (λ (y : State). Has y (state_at s)) (sym beside_is)
+                  (still_scratch s last p.still roomy_is (m.marks ∙ ap (λ (i : ℕ). replicate i 0) (sym vars_is)));
+            }

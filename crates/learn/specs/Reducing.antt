@@ -1,78 +1,64 @@
 -- What the mode leaves of the clause in the buffer.
-use Rattle.std.specs.Prelude.{ℕ, zero, suc, ◌+◌, ◌≤◌, ◌≡◌, refl, ◌≢◌, List, [], ◌∷◌, length, get_or, take, replicate}
-use Rattle.std.proofs.Common.{arith, sym, ap, ◌∙◌, subst}
-use Rattle.std.proofs.lemmas.List.Edits.{sets}
-use Rattle.std.proofs.Math.Seq.{slice, length-sets}
+use Rattle.std.specs.Prelude.{ℕ, ◌≤◌, ◌≡◌, refl, ◌≢◌, List, [], ◌∷◌, length, get_or, drop, replicate}
+use Rattle.std.proofs.Common.{arith, sym, ap, ◌∙◌}
 use Rattle.model.specs.Minimise.{minimize_conflict}
 use Rattle.learning.proofs.Minimise.{minimize_keeps}
-use Rattle.scratch.specs.View.{unmarked}
-use Rattle.state.specs.View.{Whole, whole, state_of, Rep, Holds, with_scratch}
-use Rattle.state.specs.declared.Header.{Header}
-use Rattle.state.specs.declared.Config.{Config}
-use Rattle.analyze.specs.Places.{take-sets, slice-sets}
-use Rattle.analyze.specs.Resolving.{buffer_length}
-use Rattle.minimise.specs.Tracing.{Beside}
+use Rattle.scratch.specs.declared.Scratch.{Scratch}
+use Rattle.scratch.specs.View.{with_marks}
+use Rattle.watch.specs.Meaning.{as_watches}
+use Rattle.state.specs.declared.State.{State}
+use Rattle.state.specs.Still.{state_at}
 use Rattle.minimise.specs.Minimised.{Ready, Minimised}
 
--- the first r places of the buffer are the UIP and what the definition leaves of the others; no mark is set, and all beside the scratch block is as it was
-pub record Reduced (g : Config) (h : Header) (x : Whole) (n : ℕ) (w : List ℕ) (r : ℕ) : Type 0 where
-  pub beside : Beside g.sizes h x w
-  pub marks : (whole g.sizes h w).scratch.marks ≡ replicate g.sizes.vars 0
-  pub some : 1 ≤ r
-  pub most : r ≤ n
-  pub clause : take r (whole g.sizes h w).scratch.buffer ≡ get_or x.scratch.buffer 0 0
-      ∷ minimize_conflict g.mode (state_of h x).store x.assignment.vars (slice 1 n x.scratch.buffer) x.scratch.marks
+-- with another scratch block
+abbrev pub with_scratch : State → Scratch → State
+with_scratch s x =
+    record { config = s.config; trail = s.trail; scratch = x; watches = s.watches; clauses = s.clauses; finals = s.finals; qhead = s.qhead; ok = s.ok }
 
-pub head_first : (b : List ℕ) (r : ℕ) → 1 ≤ r → r ≤ length b → take r b ≡ get_or b 0 0 ∷ slice 1 r b
-head_first [] r o l = absurd (omega arith)
-head_first (q ∷ b) zero o l = absurd (omega arith)
-head_first (q ∷ b) (suc r) o l = refl
+-- the lists have the room that they had
+pub record Roomy (x x' : Scratch) : Type 0 where
+  pub buffer : length x'.buffer.cells ≡ length x.buffer.cells
+  pub stack : length x'.stack.cells ≡ length x.stack.cells
+  pub notes : length x'.notes.cells ≡ length x.notes.cells
 
-pub first_kept : (b : List ℕ) (r : ℕ) → 1 ≤ r → get_or (take r b) 0 0 ≡ get_or b 0 0
-first_kept [] zero o = refl
-first_kept [] (suc r) o = refl
-first_kept (q ∷ b) zero o = absurd (omega arith)
-first_kept (q ∷ b) (suc r) o = refl
+abbrev pub Reducible : State → Type 0
+Reducible s = Ready s.trail s.clauses s.scratch
 
--- literals put behind the first
-pub put_behind : (b l : List ℕ) (n : ℕ) → 1 + length l ≡ n → n ≤ length b → take n (sets b 1 l) ≡ get_or b 0 0 ∷ l
-put_behind b l n e f =
-    let k : length (sets b 1 l) ≡ length b = length-sets b 1 l in
-    let a : get_or (sets b 1 l) 0 0 ≡ get_or b 0 0 =
-    sym (first_kept (sets b 1 l) 1 (omega arith)) ∙ ap (λ (y : List ℕ). get_or y 0 0) (take-sets 1 b 1 l (omega arith)) ∙ first_kept b 1 (omega arith) in
-    let s : slice 1 n (sets b 1 l) ≡ l = subst (λ (m : ℕ). slice 1 m (sets b 1 l) ≡ l) e (slice-sets b 1 l (omega arith)) in
-    head_first (sets b 1 l) n (omega arith) (omega arith) ∙ ap (λ (q : ℕ). q ∷ slice 1 n (sets b 1 l)) a ∙ ap (λ (y : List ℕ). get_or b 0 0 ∷ y) s
+-- the buffer has the UIP and what the definition leaves of the others; no mark is set, and all beside the scratch block is as it was
+pub record Reduced (s s' : State) : Type 0 where
+  pub beside : s' ≡ with_scratch s s'.scratch
+  pub roomy : Roomy s.scratch s'.scratch
+  pub marks : s'.scratch.marks ≡ replicate (length s.trail.vars.values) 0
+  pub most : length s'.scratch.buffer.items ≤ length s.scratch.buffer.items
+  pub clause : s'.scratch.buffer.items ≡ get_or s.scratch.buffer.items 0 0
+      ∷ minimize_conflict s.config.mode (state_at s).store s.trail.vars (drop 1 s.scratch.buffer.items) s.scratch.marks
 
-module _ (g : Config) (h : Header) (w : List ℕ) (n : ℕ) (p : Ready g.sizes h (whole g.sizes h w) n) where
-  abbrev x : Whole
-  x = whole g.sizes h w
+pub head_first : (b : List ℕ) → 1 ≤ length b → b ≡ get_or b 0 0 ∷ drop 1 b
+head_first [] o = absurd (omega arith)
+head_first (q ∷ b) o = refl
 
+module _ (s : State) (p : Reducible s) where
   -- mode 2
-  pub reduced_by : (w' : List ℕ) (r : ℕ) → g.mode ≡ 2 → Minimised g.sizes h (whole g.sizes h w) n w' r → Reduced g h (whole g.sizes h w) n w' r
-  reduced_by w' r e m =
+  pub reduced_by : (x : Scratch) → s.config.mode ≡ 2 → Minimised s.trail s.clauses s.scratch x → Reduced s (with_scratch s x)
+  reduced_by x e m =
       record {
-        beside = m.beside;
+        beside = refl;
+        roomy = record { buffer = m.buffer; stack = m.stack; notes = m.notes };
         marks = m.marks;
-        some = m.some;
         most = m.most;
-        clause = rw e m.clause;
+        clause = rw e (m.clause (as_watches s.watches));
       }
 
   -- the other modes keep all
-  pub reduced_none : (w' : List ℕ) → Rep g.sizes h w → g.mode ≢ 2
-      → Holds g.sizes h w' (with_scratch (whole g.sizes h w) (unmarked g.sizes.vars (whole g.sizes h w).scratch))
-      → Reduced g h (whole g.sizes h w) n w' n
-  reduced_none w' r ne e =
-      let s : (whole g.sizes h w').scratch ≡ unmarked g.sizes.vars x.scratch = ap (λ (y : Whole). y.scratch) e.whole in
-      let l : n ≤ length x.scratch.buffer = omega (arith, buffer_length g.sizes h w r, p.most) in
+  pub reduced_none : (ms : List ℕ) → s.config.mode ≢ 2 → ms ≡ replicate (length s.scratch.marks) 0 → Reduced s (with_scratch s (with_marks s.scratch ms))
+  reduced_none ms ne e =
       record {
-        beside = record { rep = e.rep; same = e.whole ∙ sym (ap (λ y. with_scratch x y) s) };
-        marks = ap (λ (y : Whole). y.scratch.marks) e.whole;
-        some = p.some;
+        beside = refl;
+        roomy = record { buffer = refl; stack = refl; notes = refl };
+        marks = e ∙ ap (λ (n : ℕ). replicate n 0) p.clause.marks.sized;
         most = omega arith;
         clause =
-            ap (λ (y : Whole). take n y.scratch.buffer) e.whole
-            ∙ head_first x.scratch.buffer n p.some l
-            ∙ ap (λ (y : List ℕ). get_or x.scratch.buffer 0 0 ∷ y)
-            (sym (minimize_keeps g.mode ne (state_of h x).store x.assignment.vars (slice 1 n x.scratch.buffer) x.scratch.marks));
+            head_first s.scratch.buffer.items p.some
+            ∙ ap (λ (y : List ℕ). get_or s.scratch.buffer.items 0 0 ∷ y)
+            (sym (minimize_keeps s.config.mode ne (state_at s).store s.trail.vars (drop 1 s.scratch.buffer.items) s.scratch.marks));
       }

@@ -1,16 +1,13 @@
 -- The cells of a set follow from its members: their flags are set, and they stand from the first cell on.
-use Rattle.std.specs.Prelude.{ℕ, suc, ◌+◌, ◌≤◌, ◌≡◌, refl, Bool, true, false, List, [], ◌∷◌, ◌++◌, length, get_or, set, take, drop}
+use Rattle.std.specs.Prelude.{ℕ, suc, ◌+◌, ◌≡◌, refl, Bool, true, false, List, [], ◌∷◌, ◌++◌, length, get_or, set, drop}
 use Rattle.std.proofs.Common.{arith, sym, ap, ◌∙◌, take-append-drop, set-set}
 use Rattle.std.proofs.Math.Decide.{ℕ_discrete}
 use Rattle.std.proofs.lemmas.List.Edits.{sets, sets-eq}
 use Rattle.std.proofs.lemmas.List.{set-get_or}
 use Rattle.model.specs.Final.{mem, insert}
-use Rattle.region.specs.Split.{split}
-use Rattle.litset.specs.declared.Size.{Size}
-use Rattle.litset.specs.declared.Head.{Head}
-use Rattle.litset.specs.View.{Members, inserted, flagged, with_items, shape, flags, view, flag, Rep}
+use Rattle.litset.specs.View.{Members, inserted, flagged, with_items, flag, Sound}
 use Rattle.litset.specs.Mem.{mem_head, mem-tail, insert_old, insert_new}
-use Rattle.litset.specs.Laws.{inserted_member, inserted_last, view-length, room_length, same_members}
+use Rattle.litset.specs.Laws.{inserted_member, inserted_last, same_members}
 
 flagged_last : (fs ls : List ℕ) (l : ℕ) → flagged fs (ls ++ (l ∷ [])) ≡ set (flagged fs ls) l 1
 unfolding flagged
@@ -49,14 +46,17 @@ flagged_same fs (k ∷ ls) e =
     go l m (yes q) = e l (mem_head l k ls q)
     go l m (no q) = e l (mem-tail l k ls q ∙ m)
 
--- the set that a slice holds
-pub with_items_same : (d : Size) (h : Head) (w : List ℕ) → Rep d h w → with_items (view d h w) (view d h w).items ≡ view d h w
-unfolding view
-with_items_same d h w r =
-    let cells = get_or (split (shape d) w) 1 [] in
-    let n : length (take h.count cells) ≡ h.count = view-length d h w r.room in
-    let end : 0 + length (take h.count cells) ≡ h.count = omega (arith, n) in
-    let fits : 0 + length (take h.count cells) ≤ length cells = omega (arith, n, room_length d h w r.room, r.room.count) in
+-- the set with no member
+pub with_items_none : (s : Members) → s.items ≡ [] → with_items s [] ≡ s
+unfolding flagged
+with_items_none s e = same_members (sym e) refl refl
+
+-- the set with its own members
+pub with_items_same : (s : Members) → Sound s → with_items s s.items ≡ s
+with_items_same s r =
     same_members refl
-    (flagged_same (flags d w) (take h.count cells) (λ l m. r.marks l ∙ ap flag m))
-    (sets-eq (take h.count cells) cells 0 fits ∙ ap (λ (k : ℕ). take h.count cells ++ drop k cells) end ∙ take-append-drop h.count cells)
+    (flagged_same s.flag_cells s.items (λ l m. r.marks l ∙ ap flag m))
+    (sets-eq s.items s.item_cells 0 (omega (arith, r.fits))
+    ∙ ap (λ (k : ℕ). s.items ++ drop k s.item_cells) (omega arith)
+    ∙ ap (λ (xs : List ℕ). xs ++ drop (length s.items) s.item_cells) r.first
+    ∙ take-append-drop (length s.items) s.item_cells)

@@ -1,101 +1,94 @@
-// A set of literals, as IntSet of intmap.rs: in order of first insertion, with no repeats. It stands in a slice of its own: a flag by literal, which
-// is 1 for a member and else 0, then the members.
+// A set of literals, as IntSet of intmap.rs: in order of first insertion, with no repeats.
 #![tactic(auto)]
 
-ghost use Rattle.std.specs.Prelude.{◌≡◌, ◌+◌, ◌≤◌, ◌<◌, length, get_or};
-ghost use Rattle.region.specs.Split.{total};
-ghost use Rattle.litset.specs.View.{shape, view, inserted, unmarked, emptied, Rep, Holds, Insertable, Clearing};
+ghost use Rattle.std.specs.Prelude.{◌≡◌, ◌<◌, [], length, get_or, replicate};
+ghost use Rattle.litset.specs.View.{inserted, emptied, Insertable, Sound};
 
-use clause::{Lit, wide};
+use clause::Lit;
+use std::marker::Model;
 
-// How many literals there are, and how many members there is room for.
-#[derive(Clone, Copy)]
-pub struct Size {
-    pub lits: usize,
-    pub room: usize,
+// `flags` has a cell for each literal, which is 1 for a member and else 0. The members stand in the first `count` cells of `items`.
+#[derive(Drop)]
+pub struct LitSet<'a> {
+    flags: &'a mut [u32],
+    items: &'a mut [u32],
+    count: usize,
 }
 
-#[derive(Clone, Copy)]
-pub struct Head {
-    pub count: usize,
+impl<'a> Model for LitSet<'a> {
+    ghost use Rattle.litset.specs.View.{Members, members, Rep};
+
+    ghost Value = { Members };
+
+    ghost view = { λ s. members s.flags.now s.items.now s.count };
+
+    ghost invariant = { λ s. Rep s.flags.now s.items.now s.count };
 }
 
-// The empty set, whatever the slice held.
-pub fn start(d: Size, s: &mut [u32]) -> Head
-    requires { total (shape d) ≤ length s.old }
-    ensures { Holds d result s.new (emptied d.lits (view d result s.old)) }
-{
-    let n = d.lits;
-    for i in 0..n {
-        s[i] = 0;
+impl<'a> LitSet<'a> {
+    // The empty set, whatever the slices held.
+    pub fn new(flags: &'a mut [u32], items: &'a mut [u32]) -> LitSet<'a>
+        ensures { result ≡ record { items = []; flag_cells = replicate (length flags.old) 0; item_cells = items.old } }
+    {
+        flags.fill(0);
+        LitSet {
+            flags,
+            items,
+            count: 0,
+        }
     }
-    Head { count: 0 }
-}
 
-// The set with l.
-pub fn insert(d: Size, h: Head, s: &mut [u32], l: Lit) -> Head
-    requires rep { Rep d h s.old }
-    requires insertable { Insertable d h s.old l.0 }
-    ensures { Holds d result s.new (inserted (view d h s.old) l.0) }
-{
-    let at = l.0 as usize;
-    if s[at] != 0 {
-        return h;
+    // What is true of every set, for a caller's proof.
+    pub fn sound(&self)
+        ensures { Sound self.now }
+    {
+        let _ = &self.items;
     }
-    let n = h.count;
-    let end = d.lits + n;
-    s[at] = 1;
-    s[end] = l.0;
-    Head { count: n + 1 }
-}
 
-pub fn len(d: Size, h: Head, s: &[u32]) -> usize
-    requires { Rep d h s.now }
-    ensures { result ≡ length (view d h s.now).items }
-{
-    h.count
-}
-
-// The member that was put in i-th.
-pub fn at(d: Size, h: Head, s: &[u32], i: usize) -> Lit
-    requires rep { Rep d h s.now }
-    requires i_lt_count { i < h.count }
-    ensures { result.0 ≡ get_or (view d h s.now).items i 0 }
-{
-    let k = d.lits + i;
-    Lit(s[k])
-}
-
-// The members, as a part of the slice.
-pub fn items(d: Size, h: Head, s: &[u32]) -> &[u32]
-    requires { Rep d h s.now }
-    ensures { result.now ≡ (view d h s.now).items }
-{
-    let from = d.lits;
-    let end = from + h.count;
-    &s[from..end]
-}
-
-// Takes back the flag of member i.
-fn unmark(d: Size, h: Head, s: &mut [u32], i: usize)
-    requires clearing { Clearing d h i s.old }
-    requires i_lt_count { i < h.count }
-    ensures clearing_2 { Clearing d h (i + 1) s.new }
-    ensures s_after { view d h s.new ≡ unmarked (view d h s.old) i }
-{
-    let k = d.lits + i;
-    let l = wide(s[k]);
-    s[l] = 0;
-}
-
-// The empty set: every flag is 0.
-pub fn clear(d: Size, h: Head, s: &mut [u32]) -> Head
-    requires { Rep d h s.old }
-    ensures { Holds d result s.new (emptied d.lits (view d h s.old)) }
-{
-    let n = h.count;
-    for i in 0..n {
-        unmark(d, h, s, i);
+    // Adds l, unless it is a member.
+    pub fn insert(&mut self, l: Lit)
+        requires { Insertable self.old l.0 }
+        ensures { self.new ≡ inserted self.old l.0 }
+    {
+        let at = l.0 as usize;
+        if self.flags[at] != 0 {
+            return;
+        }
+        self.flags[at] = 1;
+        self.items[self.count] = l.0;
+        self.count += 1;
     }
-    Head { count: 0 }
+
+    pub fn len(&self) -> usize
+        ensures { result ≡ length self.now.items }
+    {
+        self.count
+    }
+
+    // The member that was put in i-th.
+    pub fn at(&self, i: usize) -> Lit
+        requires { i < length self.now.items }
+        ensures { result.0 ≡ get_or self.now.items i 0 }
+    {
+        Lit(self.items()[i])
+    }
+
+    // The members, in order.
+    pub fn items(&self) -> &[u32]
+        ensures { result.now ≡ self.now.items }
+    {
+        &self.items[..self.count]
+    }
+
+    // Removes every member.
+    pub fn clear(&mut self)
+        ensures { self.new ≡ emptied (length self.old.flag_cells) self.old }
+    {
+        // By its index: a loop over `items` would lend `self`, and `flags` could not be written.
+        for i in 0..self.count {
+            let l = self.items[i] as usize;
+            self.flags[l] = 0;
+        }
+        self.count = 0;
+    }
 }

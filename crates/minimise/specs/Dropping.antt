@@ -1,111 +1,39 @@
--- The clause in the buffer: its mask, its notes, and what is left of it.
-use Rattle.std.specs.Prelude.{ℕ, zero, suc, ◌+◌, ◌-◌, ◌≤◌, ◌<◌, ◌≡◌, refl, ◌≢◌, Bool, true, false, List, [], ◌∷◌, ◌++◌, length, get_or, set, take, drop}
-use Rattle.std.proofs.Common.{arith, add-one, ap, ◌∙◌, get_or-take, get_or-drop, get_or-set_same, get_or-set_other, take-suc-set, length-take-le, eq-eqb, ne_eqb}
-use Rattle.std.proofs.Math.Path.{sym}
-use Rattle.std.specs.Prelude.{None as none, Some as some}
-use Rattle.std.proofs.Math.Seq.{slice, slice_empty, slice-cons, length-slice}
-use Rattle.std.proofs.lemmas.List.{drop-append-le}
+-- The clause in the buffer: its mask, and what is left of it.
+use Rattle.std.specs.Prelude.{ℕ, zero, suc, ◌+◌, ◌≤◌, ◌<◌, ◌≡◌, refl, ◌≢◌, Bool, true, false, List, [], ◌∷◌, ◌++◌, length, get_or, take, drop}
+use Rattle.std.proofs.Common.{arith, add-one, ap, sym, ◌∙◌, get_or-drop, length-set, take-suc-set, drop-cons, eq-eqb, ne_eqb, eqb-true}
+use Rattle.std.specs.Prelude.{Option, None as none, Some as some, is_some, not, eqb}
+use borrow.Author.Tests.{eqb-false, not-true, not-false}
+use Rattle.std.proofs.lemmas.List.{drop-set-lt, drop_all, length-take}
 use Rattle.std.specs.Int.Bits.{bit_or}
 use Rattle.model.specs.Lit.{var, neg, no_reason, abstract_level}
-use Rattle.model.specs.State.{Store, VarState, level_lit, reason_lit}
+use Rattle.model.specs.State.{Watch, Store, VarState, level_lit, reason_lit}
 use Rattle.model.specs.Minimise.{is_seen, abstract_levels, lit_redundant, drop_redundant}
-use Rattle.scratch.specs.View.{Scratch, with_notes, noted, buffered}
-use Rattle.lawbase.specs.Basics.{◌∈◌, split, same?, var-neg, var_range}
+use Rattle.clause.specs.Cells.{reason_at}
+use Rattle.trail.specs.View.{Assignment}
+use Rattle.store.specs.View.{Clauses}
+use Rattle.scratch.specs.Row.{Row, put}
+use Rattle.scratch.specs.View.{with_buffer}
+use Rattle.scratch.specs.declared.Scratch.{Scratch}
+use Rattle.lawbase.specs.Basics.{◌∈◌, Every}
 use Rattle.lawbase.specs.WellFormed.{Entries}
-use Rattle.learning.proofs.Trail.{in_range}
 use Rattle.learning.specs.Trace.{Fit, Grows}
 use Rattle.learning.proofs.Trace.{trace_keeps}
-use Rattle.state.specs.declared.Sizes.{Sizes}
-use Rattle.state.specs.declared.Header.{Header}
-use Rattle.state.specs.View.{Whole, whole, Rep, Holds, with_scratch, state_of}
-use Rattle.minimise.specs.declared.Traced.{Traced}
-use Rattle.minimise.specs.declared.Kept.{Kept}
-use Rattle.minimise.specs.Notes.{Noted, noted_start, noted_none, noted_then, at_in}
-use Rattle.minimise.specs.Tracing.{Beside, beside_start, beside_next, beside_then, scratch_is, Going, Tidy, buffer_length, notes_length}
-use Rattle.state.specs.Reasons.{Filled}
-use Rattle.minimise.specs.Pushing.{assignment_same, clauses_same, watches_same}
-use Rattle.minimise.specs.Redundant.{newest, Traceable, Tries}
-
--- ---- places
-
-slice_none : (f t : ℕ) (b : List ℕ) → t ≤ f → slice f t b ≡ []
-slice_none f t [] h = nothing f t
-  where
-    nothing : (i j : ℕ) → ◌≡◌ {A = List ℕ} (slice i j []) []
-    nothing zero zero = refl
-    nothing zero (suc j) = refl
-    nothing (suc i) zero = refl
-    nothing (suc i) (suc j) = refl
-slice_none f zero (x ∷ b) h = gone f
-  where
-    gone : (i : ℕ) → ◌≡◌ {A = List ℕ} (drop i []) []
-    gone zero = refl
-    gone (suc i) = refl
-slice_none zero (suc t) (x ∷ b) h = absurd (omega arith)
-slice_none (suc f) (suc t) (x ∷ b) h = slice_none f t b (omega arith)
-
-pub slice_get : (n : ℕ) (b : List ℕ) (k : ℕ) → suc k < n → get_or (slice 1 n b) k 0 ≡ get_or b (suc k) 0
-slice_get n b k h =
-    let e : 1 + k ≡ suc k = omega arith in
-    get_or-drop 1 (take n b) k 0 ∙ rw (e, get_or-take n b (suc k) 0 h)
-
-pub slice_at : (n : ℕ) (b : List ℕ) (k : ℕ) → 1 ≤ k → k < n → n ≤ length b → get_or b k 0 ∈ slice 1 n b
-slice_at n b k o h l =
-    let e : suc (k - 1) ≡ k = omega arith in
-    let i : k - 1 < length (slice 1 n b) = rw (length-slice 1 n b l) (omega arith) in
-    rw e at (rw (slice_get n b (k - 1) (omega arith)) at (at_in (slice 1 n b) (k - 1) i))
-
-pub slice-push : (j : ℕ) (b : List ℕ) (l : ℕ) → 1 ≤ j → j < length b → slice 1 (j + 1) (set b j l) ≡ slice 1 j b ++ (l ∷ [])
-slice-push j b l o h =
-    let e : 1 ≤ length (take j b) = rw (length-take-le j b (omega arith)) o in
-    rw (add-one, take-suc-set b j l h) (drop-append-le 1 (take j b) (l ∷ []) e)
+use Rattle.minimise.specs.Notes.{at_in}
+use Rattle.minimise.specs.Tracing.{Going, going_start, going_then, Tidy, reason_test, outcome}
+use Rattle.minimise.specs.Redundant.{Filled, watched, newest, Tries}
 
 -- ---- the mask
 
--- the literals at places 1 to n - 1 of the buffer are of the variables
-pub record Listed (d : Sizes) (x : Whole) (n : ℕ) : Type 0 where
-  pub most : n ≤ d.vars
-  pub range : (k : ℕ) → 1 ≤ k → k < n → var (get_or x.scratch.buffer k 0) < d.vars
-
-pub levels_end : (vs : VarState) (mask : ℕ) (b : List ℕ) (i n : ℕ) → n ≤ i → abstract_levels vs mask (slice i n b) ≡ mask
+pub levels_end : (vs : VarState) (mask : ℕ) (b : List ℕ) (i : ℕ) → length b ≤ i → abstract_levels vs mask (drop i b) ≡ mask
 unfolding abstract_levels
-levels_end vs mask b i n h = rw (slice_none i n b h)
+levels_end vs mask b i h = rw (drop_all i b h) refl
 
-pub levels_step : (vs : VarState) (mask : ℕ) (b : List ℕ) (i n : ℕ) → i < n → n ≤ length b → {q v k a : ℕ} → q ≡ get_or b i 0 → v ≡ var q → k ≡ get_or vs.levels v 0 → a ≡ abstract_level k
-    → abstract_levels vs mask (slice i n b) ≡ abstract_levels vs (bit_or mask a) (slice (i + 1) n b)
+pub levels_step : (vs : VarState) (mask : ℕ) (b : List ℕ) (i : ℕ) → i < length b → {q k x : ℕ} → q ≡ get_or b i 0 → k ≡ get_or vs.levels (var q) 0 → x ≡ abstract_level k
+    → abstract_levels vs mask (drop i b) ≡ abstract_levels vs (bit_or mask x) (drop (i + 1) b)
 unfolding abstract_levels
-levels_step vs mask b i n h l {q} {v} {k} {a} eq ev ek ea =
-    let e : a ≡ abstract_level (level_lit vs (get_or b i 0)) = rw (ea, ek, ev, eq) in
-    rw (e, add-one, slice-cons i n b 0 h l)
-
--- ---- the notes of the clause
-
--- the literals up to place i are noted
-pub record Copied (d : Sizes) (h : Header) (x : Whole) (i : ℕ) (w : List ℕ) : Type 0 where
-  pub holds : Holds d h w (with_scratch x (with_notes x.scratch (whole d h w).scratch.notes))
-  pub notes : (k : ℕ) → 1 ≤ k → k < i → get_or (whole d h w).scratch.notes (k - 1) 0 ≡ get_or x.scratch.buffer k 0
-
-pub copied_start : (d : Sizes) (h : Header) (w : List ℕ) → Rep d h w → Copied d h (whole d h w) 1 w
-copied_start d h w r = record { holds = record { rep = r; whole = refl }; notes = λ k o b. absurd (omega arith) }
-
-pub copied_fewer : {d : Sizes} {h : Header} {x : Whole} {i : ℕ} {w : List ℕ} → Copied d h x i w → (n : ℕ) → n ≤ i → Copied d h x n w
-copied_fewer g n b = record { holds = g.holds; notes = λ k o h. g.notes k o (omega arith) }
-
-pub copied_more : {d : Sizes} {h : Header} {x : Whole} {i : ℕ} {w : List ℕ} → Copied d h x i w → 1 ≤ i → i ≤ d.vars → {q : ℕ} → q ≡ get_or (whole d h w).scratch.buffer i 0 → {u : List ℕ}
-    → Holds d h u (with_scratch (whole d h w) (noted (whole d h w).scratch (i - 1) q)) → Copied d h x (i + 1) u
-copied_more {d} {h} {x} {i} {w} g o m {q} eq {u} k =
-    let b : q ≡ get_or x.scratch.buffer i 0 = eq ∙ ap (λ (y : Whole). get_or y.scratch.buffer i 0) g.holds.whole in
-    let f : (whole d h u).scratch.notes ≡ set (whole d h w).scratch.notes (i - 1) q = ap (λ (y : Whole). y.scratch.notes) k.whole in
-    let s : i - 1 < length (whole d h w).scratch.notes = rw (notes_length d h w g.holds.rep) (omega arith) in
-    let y : whole d h u ≡ with_scratch x (with_notes x.scratch (set (whole d h w).scratch.notes (i - 1) q)) =
-    k.whole ∙ ap (λ (z : Whole). with_scratch z (with_notes z.scratch (set (whole d h w).scratch.notes (i - 1) q))) g.holds.whole
-    in
-    record {
-      holds = record { rep = k.rep; whole = y ∙ ap (λ (z : List ℕ). with_scratch x (with_notes x.scratch z)) (sym f) };
-      notes = λ j p l. rw f (split (same? j i)
-          (λ e. rw (e, get_or-set_same (whole d h w).scratch.notes (i - 1) q 0 s) b)
-          (λ ne. rw (get_or-set_other (whole d h w).scratch.notes (i - 1) (j - 1) q 0 (λ e. ne (omega arith))) (g.notes j p (omega arith))));
-    }
+levels_step vs mask b i h {q} {k} {x} eq ek ex =
+    let e : x ≡ abstract_level (level_lit vs (get_or b i 0)) = rw (ex, ek, eq) refl in
+    rw (e, add-one, drop-cons b i 0 h, abstract_levels) refl
 
 -- ---- the definition's turns
 
@@ -125,251 +53,226 @@ module _ (st : Store) (vs : VarState) (mask : ℕ) (kept : List ℕ) (l : ℕ) (
     unfolding drop_redundant
     drop_gone k e = rw (ne_eqb (reason_lit vs l) no_reason ne, e, drop_redundant)
 
+drop_end : (st : Store) (vs : VarState) (mask : ℕ) (kept m : List ℕ) → drop_redundant st vs mask kept [] m ≡ kept
+unfolding drop_redundant
+drop_end st vs mask kept m = refl
+
 -- ---- one literal
 
 -- a literal of the clause: false, above level 0, marked
-pub record Falsified (d : Sizes) (x : Whole) (l : ℕ) : Type 0 where
-  pub set : neg l ∈ newest x
-  pub above : 0 < level_lit x.assignment.vars l
-  pub seen : is_seen x.scratch.marks l ≡ true
+pub record Falsified (a : Assignment) (s : Scratch) (l : ℕ) : Type 0 where
+  pub set : neg l ∈ newest a
+  pub above : 0 < level_lit a.vars l
+  pub seen : is_seen s.marks l ≡ true
 
-pub record Judgeable (d : Sizes) (x : Whole) (l t : ℕ) : Type 0 where
-  pub entries : Entries d.vars x.clauses.clauses x.assignment.vars (newest x)
-  pub filled : Filled x.clauses.clauses
-  pub lit : Falsified d x l
-  pub tidy : Tidy d.vars x.scratch 0 t
+pub record Judgeable (a : Assignment) (c : Clauses) (s : Scratch) (l : ℕ) : Type 0 where
+  pub entries : Entries (length a.vars.values) c.clauses a.vars (newest a)
+  pub filled : Filled c.clauses
+  pub lit : Falsified a s l
+  pub tidy : Tidy (length a.vars.values) s
 
 -- what is kept, with l or without it
 abbrev pub keep_unless : Bool → List ℕ → ℕ → List ℕ
 keep_unless true kept l = kept
 keep_unless false kept l = kept ++ (l ∷ [])
 
-pub record Judges (d : Sizes) (h : Header) (x : Whole) (mask l t : ℕ) (w : List ℕ) (r : Traced) : Type 0 where
-  pub beside : Beside d h x w
-  pub going : Going d.vars x.scratch t (whole d h w).scratch 0 r.noted
-  pub grows : Grows x.scratch.marks (whole d h w).scratch.marks
-  pub result : (kept ls : List ℕ) → drop_redundant (state_of h x).store x.assignment.vars mask kept (l ∷ ls) x.scratch.marks
-      ≡ drop_redundant (state_of h x).store x.assignment.vars mask (keep_unless r.gone kept l) ls (whole d h w).scratch.marks
+pub record Judges (a : Assignment) (c : Clauses) (s s' : Scratch) (mask l : ℕ) (r : Bool) : Type 0 where
+  pub going : Going (length a.vars.values) s s'
+  pub buffer : s'.buffer ≡ s.buffer
+  pub grows : Grows s.marks s'.marks
+  pub result : (ws : List (List Watch)) (kept ls : List ℕ) → drop_redundant (watched c ws) a.vars mask kept (l ∷ ls) s.marks
+      ≡ drop_redundant (watched c ws) a.vars mask (keep_unless r kept l) ls s'.marks
 
-module _ {d : Sizes} {h : Header} {w : List ℕ} {l t : ℕ} (r : Rep d h w) (p : Judgeable d (whole d h w) l t) where
-  abbrev vs : VarState
-  vs = (whole d h w).assignment.vars
+module _ {a : Assignment} {c : Clauses} {s : Scratch} {l : ℕ} (p : Judgeable a c s l) where
+  abbrev n : ℕ
+  n = length a.vars.values
 
-  pub judged_var : var l < d.vars
-  judged_var = rw var-neg at (var_range (neg l) d.vars (in_range d.vars (whole d h w).clauses.clauses vs (newest (whole d h w)) p.entries (neg l) p.lit.set))
-
-  module _ {v q : ℕ} (ev : v ≡ var l) (eq : q ≡ get_or vs.reasons v 0) where
-    pub judged_decided : (mask : ℕ) → q ≡ no_reason → Judges d h (whole d h w) mask l t w (record { gone = false; noted = t })
-    judged_decided mask e =
-        let z : reason_lit vs l ≡ no_reason = rw ev at (sym eq ∙ e) in
-        record {
-          beside = beside_start d h w r;
-          going = record { tidy = p.tidy; buffer = refl; notes = noted_start t (whole d h w).scratch.marks (whole d h w).scratch.notes };
-          grows = λ u s. s;
-          result = λ kept ls. drop_decided (state_of h (whole d h w)).store vs mask kept l ls (whole d h w).scratch.marks z;
-        }
-
-    module _ (ne : q ≢ no_reason) where
-      caused : reason_lit vs l ≢ no_reason
-      caused z = ne (eq ∙ ap (λ (i : ℕ). get_or vs.reasons i 0) ev ∙ z)
-
-      fit : Fit vs (newest (whole d h w)) l
-      fit = record { falsified = p.lit.set; above = p.lit.above; caused = caused }
-
-      pub judged_ask : Traceable d h (whole d h w) l t
-      judged_ask = record { entries = p.entries; filled = p.filled; fit = fit; seen = p.lit.seen; tidy = p.tidy }
-
-      pub judged_tried : {mask : ℕ} {u : List ℕ} {o : Traced} → Tries d h (whole d h w) mask l t u o → Judges d h (whole d h w) mask l t u o
-      judged_tried {mask} {u} {o} k = by o.gone refl
-        where
-          m : List ℕ
-          m = (whole d h w).scratch.marks
-
-          by : (b : Bool) → o.gone ≡ b → Judges d h (whole d h w) mask l t u o
-          by true e =
-              let f = rw e at k.result in
-              record {
-                beside = k.beside;
-                going = k.going;
-                grows = (trace_keeps d.vars (state_of h (whole d h w)).store vs (newest (whole d h w)) p.entries mask (suc (length m)) l m (whole d h u).scratch.marks p.tidy.marks fit f).1;
-                result = λ kept ls. rw e (drop_gone (state_of h (whole d h w)).store vs mask kept l ls m caused (whole d h u).scratch.marks f);
-              }
-          by false e =
-              let f = rw e at k.result in
-              let n : Noted t m (whole d h w).scratch.notes t (whole d h u).scratch.marks (whole d h u).scratch.notes = rw (k.kept e) at k.going.notes in
-              let s : (whole d h u).scratch.marks ≡ m = noted_none t (whole d h u).scratch.marks (whole d h u).scratch.notes m (whole d h w).scratch.notes n in
-              record {
-                beside = k.beside;
-                going = k.going;
-                grows = λ z g. rw s g;
-                result = λ kept ls. rw (e, s) (drop_kept (state_of h (whole d h w)).store vs mask kept l ls m caused f);
-              }
-
--- ---- a literal kept or dropped
-
--- the literal at place i of the buffer; those kept so far stand before place j
-pub record Droppable (d : Sizes) (x : Whole) (i j t : ℕ) : Type 0 where
-  pub judged : Judgeable d x (get_or x.scratch.buffer i 0) t
-  pub low : 1 ≤ j
-  pub order : j ≤ i
-  pub most : i < d.vars
-
-pub record Drops (d : Sizes) (h : Header) (x : Whole) (mask i j t : ℕ) (w : List ℕ) (r : Kept) : Type 0 where
-  pub beside : Beside d h x w
-  pub tidy : Tidy d.vars (whole d h w).scratch 0 r.noted
-  pub notes : Noted t x.scratch.marks x.scratch.notes r.noted (whole d h w).scratch.marks (whole d h w).scratch.notes
-  pub grows : Grows x.scratch.marks (whole d h w).scratch.marks
-  pub low : 1 ≤ r.kept
-  pub high : r.kept ≤ i + 1
-  pub first : get_or (whole d h w).scratch.buffer 0 0 ≡ get_or x.scratch.buffer 0 0
-  pub later : (k : ℕ) → i < k → get_or (whole d h w).scratch.buffer k 0 ≡ get_or x.scratch.buffer k 0
-  pub result : (ls : List ℕ) → drop_redundant (state_of h x).store x.assignment.vars mask (slice 1 j x.scratch.buffer) (get_or x.scratch.buffer i 0 ∷ ls) x.scratch.marks
-      ≡ drop_redundant (state_of h x).store x.assignment.vars mask (slice 1 r.kept (whole d h w).scratch.buffer) ls (whole d h w).scratch.marks
-
-pub droppable_lit : {d : Sizes} {x : Whole} {i j t q : ℕ} → Droppable d x i j t → q ≡ get_or x.scratch.buffer i 0 → Judgeable d x q t
-droppable_lit p e = rw e p.judged
-
-module _ {d : Sizes} {h : Header} {x : Whole} {mask i j t q : ℕ} (p : Droppable d x i j t) (eq : q ≡ get_or x.scratch.buffer i 0) {w : List ℕ} {o : Traced} (k : Judges d h x mask q t w o) where
-  st : Store
-  st = (state_of h x).store
-
-  pub drops_gone : o.gone ≡ true → Drops d h x mask i j t w (record { kept = j; noted = o.noted })
-  drops_gone e =
-      let b = k.going.buffer in
+  pub judged_decided : {mask : ℕ} → reason_lit a.vars l ≡ no_reason → Judges a c s s mask l false
+  judged_decided {mask} e =
       record {
-        beside = k.beside;
-        tidy = k.going.tidy;
-        notes = k.going.notes;
-        grows = k.grows;
-        low = p.low;
-        high = omega (arith, p.order);
-        first = rw b refl;
-        later = λ m a. rw b refl;
-        result = λ ls. rw (b, ← eq) (rw e at (k.result (slice 1 j x.scratch.buffer) ls));
+        going = going_start n s p.tidy;
+        buffer = refl;
+        grows = λ u h. h;
+        result = λ ws kept ls. drop_decided (watched c ws) a.vars mask kept l ls s.marks e;
       }
 
-  pub drops_kept : o.gone ≡ false → {u : List ℕ} → Holds d h u (with_scratch (whole d h w) (buffered (whole d h w).scratch j q))
-      → Drops d h x mask i j t u (record { kept = j + 1; noted = o.noted })
-  drops_kept e {u} n =
-      let b = k.going.buffer in
-      let f = scratch_is d h u (whole d h w) (buffered (whole d h w).scratch j q) n in
-      let s : (whole d h u).scratch.marks ≡ (whole d h w).scratch.marks = ap (λ (z : Scratch). z.marks) f in
-      let z : (whole d h u).scratch.buffer ≡ set x.scratch.buffer j q = ap (λ (z : Scratch). z.buffer) f ∙ ap (λ (y : List ℕ). set y j q) b in
-      let l : j < length x.scratch.buffer = rw (← b) (omega (arith, buffer_length d h w k.beside.rep, p.order, p.most)) in
-      record {
-        beside = beside_next d h x w u k.beside (buffered (whole d h w).scratch j q) n;
-        tidy = tidied k.going.tidy f;
-        notes = rw (s, ap (λ (z : Scratch). z.notes) f) k.going.notes;
-        grows = rw s k.grows;
-        low = omega arith;
-        high = omega (arith, p.order);
-        first = rw z (get_or-set_other x.scratch.buffer j 0 q 0 (λ a. omega (arith, p.low)));
-        later = λ m a. rw z (get_or-set_other x.scratch.buffer j m q 0 (λ c. omega (arith, p.order)));
-        result = λ ls. rw (z, s, slice-push j x.scratch.buffer q p.low l, ← eq) (rw e at (k.result (slice 1 j x.scratch.buffer) ls));
-      }
-    where
-      tidied : Tidy d.vars (whole d h w).scratch 0 o.noted → (whole d h u).scratch ≡ buffered (whole d h w).scratch j q → Tidy d.vars (whole d h u).scratch 0 o.noted
-      tidied y f = rw f (record { marks = y.marks; stack = y.stack; notes = y.notes; cells = y.cells; stacked = y.stacked; noted = y.noted })
+  -- b: whether its reason's cell, read as an option, names one
+  module _ {v : ℕ} (ev : v ≡ var l) {f : Option ℕ} (ef : f ≡ reason_at (get_or a.vars.reasons v 0)) {b : Bool} (eb : b ≡ is_some f) where
+    test : b ≡ not (eqb (reason_lit a.vars l) no_reason)
+    test = eb ∙ ap (λ (o : Option ℕ). is_some o) ef ∙ ap (λ (i : ℕ). is_some (reason_at (get_or a.vars.reasons i 0))) ev ∙ reason_test (reason_lit a.vars l)
+
+    pub judged_free : b ≡ false → reason_lit a.vars l ≡ no_reason
+    judged_free e = eqb-true (reason_lit a.vars l) no_reason (not-false (eqb (reason_lit a.vars l) no_reason) (sym test ∙ e))
+
+    pub judged_caused : b ≡ true → reason_lit a.vars l ≢ no_reason
+    judged_caused e = eqb-false (reason_lit a.vars l) no_reason (not-true (eqb (reason_lit a.vars l) no_reason) (sym test ∙ e))
+
+  module _ (ne : reason_lit a.vars l ≢ no_reason) where
+    fit : Fit a.vars (newest a) l
+    fit = record { falsified = p.lit.set; above = p.lit.above; caused = ne }
+
+    pub judged_tried : {s' : Scratch} {mask : ℕ} {r : Bool} → Tries a c s s' mask l r → Judges a c s s' mask l r
+    judged_tried {s'} {mask} {r} k = by r refl
+      where
+        by : (b : Bool) → r ≡ b → Judges a c s s' mask l r
+        by true e =
+            let f : (ws : List (List Watch)) → lit_redundant (watched c ws) a.vars mask (suc (length s.marks)) (record { stack = l ∷ []; seen = s.marks }) ≡ some s'.marks =
+            λ ws. k.result ws ∙ ap (λ (b : Bool). outcome b s'.marks) e
+            in
+            record {
+              going = k.going;
+              buffer = k.buffer;
+              grows = (trace_keeps n (watched c []) a.vars (newest a) p.entries mask (suc (length s.marks)) l s.marks s'.marks p.tidy.marks fit (f [])).1;
+              result = λ ws kept ls. rw e (drop_gone (watched c ws) a.vars mask kept l ls s.marks ne s'.marks (f ws));
+            }
+        by false e =
+            let z : s'.marks ≡ s.marks = k.marks e in
+            record {
+              going = k.going;
+              buffer = k.buffer;
+              grows = λ v g. rw z g;
+              result = λ ws kept ls. rw (e, z) (drop_kept (watched c ws) a.vars mask kept l ls s.marks ne (k.result ws ∙ ap (λ (b : Bool). outcome b s'.marks) e));
+            }
 
 -- ---- the clause
 
-pub record Minimising (d : Sizes) (x : Whole) (n t : ℕ) : Type 0 where
-  pub entries : Entries d.vars x.clauses.clauses x.assignment.vars (newest x)
-  pub filled : Filled x.clauses.clauses
-  pub lits : (k : ℕ) → 1 ≤ k → k < n → Falsified d x (get_or x.scratch.buffer k 0)
-  pub tidy : Tidy d.vars x.scratch 0 t
-  pub some : 1 ≤ n
-  pub most : n ≤ d.vars
+pub record Minimising (a : Assignment) (c : Clauses) (s : Scratch) : Type 0 where
+  pub entries : Entries (length a.vars.values) c.clauses a.vars (newest a)
+  pub filled : Filled c.clauses
+  pub some : 1 ≤ length s.buffer.items
+  pub lits : Every (Falsified a s) (drop 1 s.buffer.items)
+  pub tidy : Tidy (length a.vars.values) s
 
-pub record Shrinks (d : Sizes) (h : Header) (x : Whole) (mask n t : ℕ) (w : List ℕ) (r : Kept) : Type 0 where
-  pub beside : Beside d h x w
-  pub tidy : Tidy d.vars (whole d h w).scratch 0 r.noted
-  pub notes : Noted t x.scratch.marks x.scratch.notes r.noted (whole d h w).scratch.marks (whole d h w).scratch.notes
-  pub low : 1 ≤ r.kept
-  pub high : r.kept ≤ n
-  pub first : get_or (whole d h w).scratch.buffer 0 0 ≡ get_or x.scratch.buffer 0 0
-  pub result : slice 1 r.kept (whole d h w).scratch.buffer ≡ drop_redundant (state_of h x).store x.assignment.vars mask [] (slice 1 n x.scratch.buffer) x.scratch.marks
+pub record Shrinks (a : Assignment) (c : Clauses) (s s' : Scratch) (mask : ℕ) : Type 0 where
+  pub going : Going (length a.vars.values) s s'
+  pub cells : length s'.buffer.cells ≡ length s.buffer.cells
+  pub most : length s'.buffer.items ≤ length s.buffer.items
+  pub clause : (ws : List (List Watch)) → s'.buffer.items ≡ get_or s.buffer.items 0 0 ∷ drop_redundant (watched c ws) a.vars mask [] (drop 1 s.buffer.items) s.marks
 
 -- place i is next, and what is kept stands before place j
-pub record Shrinking (d : Sizes) (h : Header) (x : Whole) (mask n t0 : ℕ) (w : List ℕ) (i j t : ℕ) : Type 0 where
-  pub beside : Beside d h x w
-  pub tidy : Tidy d.vars (whole d h w).scratch 0 t
-  pub notes : Noted t0 x.scratch.marks x.scratch.notes t (whole d h w).scratch.marks (whole d h w).scratch.notes
-  pub grows : Grows x.scratch.marks (whole d h w).scratch.marks
-  pub low : 1 ≤ j
+pub record Shrinking (a : Assignment) (c : Clauses) (s s' : Scratch) (mask i j : ℕ) : Type 0 where
+  pub going : Going (length a.vars.values) s s'
+  pub grows : Grows s.marks s'.marks
+  pub cells : length s'.buffer.cells ≡ length s.buffer.cells
+  pub size : length s'.buffer.items ≡ length s.buffer.items
   pub order : j ≤ i
-  pub most : i ≤ n
-  pub first : get_or (whole d h w).scratch.buffer 0 0 ≡ get_or x.scratch.buffer 0 0
-  pub later : (k : ℕ) → i ≤ k → get_or (whole d h w).scratch.buffer k 0 ≡ get_or x.scratch.buffer k 0
-  pub rest : drop_redundant (state_of h x).store x.assignment.vars mask [] (slice 1 n x.scratch.buffer) x.scratch.marks
-      ≡ drop_redundant (state_of h x).store x.assignment.vars mask (slice 1 j (whole d h w).scratch.buffer) (slice i n x.scratch.buffer) (whole d h w).scratch.marks
+  pub later : drop i s'.buffer.items ≡ drop i s.buffer.items
+  pub kept : List ℕ
+  pub front : take j s'.buffer.items ≡ get_or s.buffer.items 0 0 ∷ kept
+  pub rest : (ws : List (List Watch)) → drop_redundant (watched c ws) a.vars mask [] (drop 1 s.buffer.items) s.marks
+      ≡ drop_redundant (watched c ws) a.vars mask kept (drop i s.buffer.items) s'.marks
 
-pub shrinking_start : {d : Sizes} {h : Header} {w : List ℕ} {n t : ℕ} (mask : ℕ) → Rep d h w → Minimising d (whole d h w) n t → Shrinking d h (whole d h w) mask n t w 1 1 t
-shrinking_start {d} {h} {w} {n} {t} mask r p =
-    let x = whole d h w in
+take_first : (b : List ℕ) → 1 ≤ length b → take 1 b ≡ get_or b 0 0 ∷ []
+take_first [] h = absurd (omega arith)
+take_first (x ∷ b) h = refl
+
+behind_first : (b : List ℕ) (i : ℕ) → 1 ≤ i → i < length b → get_or b i 0 ∈ drop 1 b
+behind_first [] i o h = absurd (omega arith)
+behind_first (x ∷ b) zero o h = absurd (omega arith)
+behind_first (x ∷ b) (suc i) o h = at_in b i (omega arith)
+
+drop_next : (b d : List ℕ) (i : ℕ) → i < length b → i < length d → drop i b ≡ drop i d → drop (i + 1) b ≡ drop (i + 1) d
+drop_next b d i h k e = rw add-one (ap (drop 1) (sym (drop-cons b i 0 h) ∙ e ∙ drop-cons d i 0 k))
+
+pub shrinking_start : {a : Assignment} {c : Clauses} {s : Scratch} {mask : ℕ} → Minimising a c s → Shrinking a c s s mask 1 1
+shrinking_start {a} {c} {s} p =
     record {
-      beside = beside_start d h w r;
-      tidy = p.tidy;
-      notes = noted_start t x.scratch.marks x.scratch.notes;
-      grows = λ v s. s;
-      low = omega arith;
+      going = going_start (length a.vars.values) s p.tidy;
+      grows = λ v h. h;
+      cells = refl;
+      size = refl;
       order = omega arith;
-      most = p.some;
-      first = refl;
-      later = λ k a. refl;
-      rest = rw (slice_empty 1 x.scratch.buffer) refl;
+      later = refl;
+      kept = [];
+      front = take_first s.buffer.items p.some;
+      rest = λ ws. refl;
     }
 
-module _ {d : Sizes} {h : Header} {x : Whole} {mask n t0 : ℕ} (p : Minimising d x n t0) {w : List ℕ} {i j t : ℕ} (g : Shrinking d h x mask n t0 w i j t) where
-  pub shrinking_ask : i < n → Droppable d (whole d h w) i j t
-  shrinking_ask b =
-      let f = p.lits i (omega (arith, g.low, g.order)) b in
-      let a = assignment_same d h x w g.beside in
-      record {
-        judged =
-            rw (g.later i (omega arith))
-            (record {
-              entries = rw (a, clauses_same d h x w g.beside) p.entries;
-              filled = rw (clauses_same d h x w g.beside) p.filled;
-              lit = record { set = rw a f.set; above = rw a f.above; seen = g.grows (var (get_or x.scratch.buffer i 0)) f.seen };
-              tidy = g.tidy;
-            });
-        low = g.low;
-        order = g.order;
-        most = omega (arith, p.most);
-      }
+module _ {a : Assignment} {c : Clauses} {s s' : Scratch} {mask i j : ℕ} (p : Minimising a c s) (g : Shrinking a c s s' mask i j) where
+  module _ (b : i < length s.buffer.items) {l : ℕ} (e : l ≡ get_or s'.buffer.items i 0) where
+    lit_was : l ≡ get_or s.buffer.items i 0
+    lit_was =
+        let z : i + 0 ≡ i = omega arith in
+        e ∙ (rw z at (sym (get_or-drop i s'.buffer.items 0 0) ∙ ap (λ (xs : List ℕ). get_or xs 0 0) g.later ∙ get_or-drop i s.buffer.items 0 0))
 
-  pub shrinking_turn : n ≤ length x.scratch.buffer → i < n → {u : List ℕ} {r : Kept} → Drops d h (whole d h w) mask i j t u r → Shrinking d h x mask n t0 u (i + 1) r.kept r.noted
-  shrinking_turn l b {u} {r} k =
-      let a = assignment_same d h x w g.beside in
-      let e : drop_redundant (state_of h x).store x.assignment.vars mask (slice 1 j (whole d h w).scratch.buffer) (get_or x.scratch.buffer i 0 ∷ slice (i + 1) n x.scratch.buffer) (whole d h w).scratch.marks
-      ≡ drop_redundant (state_of h x).store x.assignment.vars mask (slice 1 r.kept (whole d h u).scratch.buffer) (slice (i + 1) n x.scratch.buffer) (whole d h u).scratch.marks =
-      rw (a, clauses_same d h x w g.beside, watches_same d h x w g.beside, g.later i (omega arith)) at (k.result (slice (i + 1) n x.scratch.buffer))
-      in
-      let c : slice i n x.scratch.buffer ≡ get_or x.scratch.buffer i 0 ∷ slice (i + 1) n x.scratch.buffer = rw add-one (slice-cons i n x.scratch.buffer 0 b l) in
-      record {
-        beside = beside_then d h x w u g.beside k.beside;
-        tidy = k.tidy;
-        notes = noted_then t0 x.scratch.marks x.scratch.notes t (whole d h w).scratch.marks (whole d h w).scratch.notes r.noted (whole d h u).scratch.marks (whole d h u).scratch.notes
-            (k.tidy.marks ∙ sym g.tidy.marks) g.notes k.notes;
-        grows = λ v s. k.grows v (g.grows v s);
-        low = k.low;
-        order = k.high;
-        most = omega arith;
-        first = k.first ∙ g.first;
-        later = λ m o. k.later m (omega arith) ∙ g.later m (omega arith);
-        rest = g.rest ∙ rw c e;
-      }
+    pub shrinking_ask : 1 ≤ i → Judgeable a c s' l
+    shrinking_ask o =
+        let f : Falsified a s l = rw lit_was (p.lits (get_or s.buffer.items i 0) (behind_first s.buffer.items i o b)) in
+        record {
+          entries = p.entries;
+          filled = p.filled;
+          lit = record { set = f.set; above = f.above; seen = g.grows (var l) f.seen };
+          tidy = g.going.tidy;
+        }
 
-  pub shrinking_end : n ≤ i → Shrinks d h x mask n t0 w (record { kept = j; noted = t })
-  unfolding drop_redundant
+    module _ {v : Scratch} {r : Bool} (k : Judges a c s' v mask l r) where
+      turn : (ws : List (List Watch)) → drop_redundant (watched c ws) a.vars mask [] (drop 1 s.buffer.items) s.marks
+          ≡ drop_redundant (watched c ws) a.vars mask (keep_unless r g.kept l) (drop (i + 1) s.buffer.items) v.marks
+      turn ws =
+          let f : drop i s.buffer.items ≡ l ∷ drop (i + 1) s.buffer.items = rw (lit_was, add-one) (drop-cons s.buffer.items i 0 b) in
+          g.rest ws
+          ∙ ap (λ (xs : List ℕ). drop_redundant (watched c ws) a.vars mask g.kept xs s'.marks) f
+          ∙ k.result ws g.kept (drop (i + 1) s.buffer.items)
+
+      later_on : drop (i + 1) s'.buffer.items ≡ drop (i + 1) s.buffer.items
+      later_on = drop_next s'.buffer.items s.buffer.items i (omega (arith, g.size)) b g.later
+
+      pub shrinking_gone : r ≡ true → Shrinking a c s v mask (i + 1) j
+      shrinking_gone o =
+          record {
+            going = going_then g.going k.going;
+            grows = λ w h. k.grows w (g.grows w h);
+            cells = ap (λ (x : Row). length x.cells) k.buffer ∙ g.cells;
+            size = ap (λ (x : Row). length x.items) k.buffer ∙ g.size;
+            order = omega (arith, g.order);
+            later = ap (λ (x : Row). drop (i + 1) x.items) k.buffer ∙ later_on;
+            kept = g.kept;
+            front = ap (λ (x : Row). take j x.items) k.buffer ∙ g.front;
+            rest = λ ws. turn ws ∙ ap (λ (t : Bool). drop_redundant (watched c ws) a.vars mask (keep_unless t g.kept l) (drop (i + 1) s.buffer.items) v.marks) o;
+          }
+
+      pub shrinking_kept : r ≡ false → Shrinking a c s (with_buffer v (put v.buffer j l)) mask (i + 1) (j + 1)
+      shrinking_kept o =
+          let f : v.buffer.items ≡ s'.buffer.items = ap (λ (x : Row). x.items) k.buffer in
+          let d : v.buffer.cells ≡ s'.buffer.cells = ap (λ (x : Row). x.cells) k.buffer in
+          let h : j < length s'.buffer.items = omega (arith, g.size, g.order) in
+          let t = going_then g.going k.going in
+          record {
+            going =
+                record {
+                  tidy = record { marks = t.tidy.marks; cells = t.tidy.cells; stack = t.tidy.stack; notes = t.tidy.notes };
+                  stack = t.stack;
+                  notes = t.notes;
+                  new = t.new;
+                  noted = t.noted;
+                  made = t.made;
+                };
+            grows = λ w h. k.grows w (g.grows w h);
+            cells = length-set v.buffer.cells j l ∙ ap (λ (xs : List ℕ). length xs) d ∙ g.cells;
+            size = length-set v.buffer.items j l ∙ ap (λ (xs : List ℕ). length xs) f ∙ g.size;
+            order = omega (arith, g.order);
+            later = drop-set-lt (i + 1) v.buffer.items j l (omega (arith, g.order)) ∙ ap (drop (i + 1)) f ∙ later_on;
+            kept = g.kept ++ (l ∷ []);
+            front = rw (f, add-one) (take-suc-set s'.buffer.items j l h ∙ ap (λ (xs : List ℕ). xs ++ (l ∷ [])) g.front);
+            rest = λ ws. turn ws ∙ ap (λ (t : Bool). drop_redundant (watched c ws) a.vars mask (keep_unless t g.kept l) (drop (i + 1) s.buffer.items) v.marks) o;
+          }
+
+  pub shrinking_end : length s.buffer.items ≤ i → Shrinks a c s (with_buffer s' (record { items = take j s'.buffer.items; cells = s'.buffer.cells })) mask
   shrinking_end b =
+      let t = g.going in
       record {
-        beside = g.beside;
-        tidy = g.tidy;
-        notes = g.notes;
-        low = g.low;
-        high = omega (arith, g.order, g.most);
-        first = g.first;
-        result = sym (g.rest ∙ rw (slice_none i n x.scratch.buffer b) refl);
+        going =
+            record {
+              tidy = record { marks = t.tidy.marks; cells = t.tidy.cells; stack = t.tidy.stack; notes = t.tidy.notes };
+              stack = t.stack;
+              notes = t.notes;
+              new = t.new;
+              noted = t.noted;
+              made = t.made;
+            };
+        cells = g.cells;
+        most = omega (arith, length-take j s'.buffer.items, g.size);
+        clause = λ ws. g.front ∙ ap (λ (xs : List ℕ). get_or s.buffer.items 0 0 ∷ xs)
+            (sym (g.rest ws ∙ ap (λ (xs : List ℕ). drop_redundant (watched c ws) a.vars mask g.kept xs s'.marks) (drop_all i s.buffer.items b)
+            ∙ drop_end (watched c ws) a.vars mask g.kept s'.marks));
       }

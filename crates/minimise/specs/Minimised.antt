@@ -1,149 +1,131 @@
 -- What minimising asks of the clause in the buffer, and what it leaves.
-use Rattle.std.specs.Prelude.{ℕ, zero, suc, ◌-◌, ◌≤◌, ◌<◌, ◌≡◌, refl, List, [], ◌∷◌, length, get_or, take, replicate}
-use Rattle.std.proofs.Common.{arith, ap, ap₂, sym, ◌∙◌}
-use Rattle.std.proofs.Math.Seq.{slice, length-slice}
-use Rattle.model.specs.Lit.{neg}
+use Rattle.std.specs.Prelude.{ℕ, ◌+◌, ◌≤◌, ◌<◌, ◌≡◌, List, [], ◌∷◌, ◌++◌, length, get_or, drop, replicate}
+use Rattle.std.proofs.Common.{arith, ap, sym, subst, ◌∙◌, length-drop, length-append}
+use Rattle.std.proofs.lemmas.List.{append-nil, drop_all}
+use Rattle.model.specs.Lit.{var, neg}
+use Rattle.model.specs.State.{Watch, Store, VarState}
 use Rattle.model.specs.Minimise.{abstract_levels, minimize_conflict}
-use Rattle.scratch.specs.View.{Scratch, with_marks, with_notes}
+use Rattle.trail.specs.View.{Assignment}
+use Rattle.store.specs.View.{Clauses}
+use Rattle.scratch.specs.Row.{Row}
+use Rattle.scratch.specs.View.{with_notes}
+use Rattle.scratch.specs.declared.Scratch.{Scratch}
 use Rattle.lawbase.specs.Basics.{◌∈◌, var-neg, var_range}
 use Rattle.lawbase.specs.WellFormed.{Distinct}
 use Rattle.learning.proofs.Trail.{in_range, in_reverse}
-use Rattle.learning.proofs.Marks.{unseen_most}
+use Rattle.learning.specs.Marks.{unseen}
 use Rattle.learning.specs.Minimise.{Minimisable}
-use Rattle.state.specs.declared.Sizes.{Sizes}
-use Rattle.state.specs.declared.Header.{Header}
-use Rattle.state.specs.View.{Whole, whole, Rep, Holds, with_scratch, state_of}
-use Rattle.minimise.specs.declared.Kept.{Kept}
-use Rattle.minimise.specs.Notes.{undo, Noted, noted_then, noted-clause, clause_room}
-use Rattle.minimise.specs.Tracing.{Beside, beside_start, beside_next, beside_then, scratch_is, marks_length, buffer_length, stack_length, notes_length}
-use Rattle.state.specs.Reasons.{Filled}
-use Rattle.minimise.specs.Redundant.{newest, Clearable}
-use Rattle.minimise.specs.Dropping.{slice_get, slice_at, Listed, Copied, Minimising, Shrinks}
+use Rattle.minimise.specs.Notes.{Made, made_then, made_clause, clause_room, at_in, Noted, Undone}
+use Rattle.minimise.specs.Tracing.{Tidy}
+use Rattle.minimise.specs.Redundant.{Filled, watched, newest}
+use Rattle.minimise.specs.Dropping.{Minimising, Shrinks}
 
--- the UIP at place 0 of the buffer, and behind it literals up to place n that can be minimised, no variable twice
-pub record Ready (d : Sizes) (h : Header) (x : Whole) (n : ℕ) : Type 0 where
-  pub some : 1 ≤ n
-  pub most : n ≤ d.vars
-  pub clause : Minimisable d.vars (state_of h x).store x.assignment.vars (slice 1 n x.scratch.buffer) x.scratch.marks
-  pub distinct : Distinct (slice 1 n x.scratch.buffer)
-  pub filled : Filled x.clauses.clauses
+-- the UIP first in the buffer, and behind it literals that can be minimised, no variable twice; the stack and the notes have a cell for each variable
+pub record Ready (a : Assignment) (c : Clauses) (s : Scratch) : Type 0 where
+  pub some : 1 ≤ length s.buffer.items
+  pub clause : Minimisable (length a.vars.values) (watched c []) a.vars (drop 1 s.buffer.items) s.marks
+  pub distinct : Distinct (drop 1 s.buffer.items)
+  pub filled : Filled c.clauses
+  pub stack : length a.vars.values ≤ length s.stack.cells
+  pub notes : length a.vars.values ≤ length s.notes.cells
 
--- the first r places of the buffer are the UIP and what the definition leaves of the others; no mark is set, and all beside the scratch block is as it was
-pub record Minimised (d : Sizes) (h : Header) (x : Whole) (n : ℕ) (w : List ℕ) (r : ℕ) : Type 0 where
-  pub beside : Beside d h x w
-  pub marks : (whole d h w).scratch.marks ≡ replicate d.vars 0
-  pub some : 1 ≤ r
-  pub most : r ≤ n
-  pub clause : take r (whole d h w).scratch.buffer ≡ get_or x.scratch.buffer 0 0
-      ∷ minimize_conflict 2 (state_of h x).store x.assignment.vars (slice 1 n x.scratch.buffer) x.scratch.marks
+-- the buffer has the UIP and what the definition leaves of the others, whatever the watches are; no mark is set, and the lists have the room that they had
+pub record Minimised (a : Assignment) (c : Clauses) (s s' : Scratch) : Type 0 where
+  pub marks : s'.marks ≡ replicate (length a.vars.values) 0
+  pub most : length s'.buffer.items ≤ length s.buffer.items
+  pub clause : (ws : List (List Watch)) → s'.buffer.items ≡ get_or s.buffer.items 0 0 ∷ minimize_conflict 2 (watched c ws) a.vars (drop 1 s.buffer.items) s.marks
+  pub buffer : length s'.buffer.cells ≡ length s.buffer.cells
+  pub stack : length s'.stack.cells ≡ length s.stack.cells
+  pub notes : length s'.notes.cells ≡ length s.notes.cells
 
-head_first : (b : List ℕ) (r : ℕ) → 1 ≤ r → r ≤ length b → take r b ≡ get_or b 0 0 ∷ slice 1 r b
-head_first [] r o l = absurd (omega arith)
-head_first (q ∷ b) zero o l = absurd (omega arith)
-head_first (q ∷ b) (suc r) o l = refl
+-- minimising reads no watches
+pub minimisable_in : {n : ℕ} {st : Store} {vs : VarState} {ls m : List ℕ} → Minimisable n st vs ls m → (ws : List (List Watch))
+    → Minimisable n (record { clauses = st.clauses; watches = ws }) vs ls m
+minimisable_in h ws = record { assignment = h.assignment; falsified = h.falsified; above = h.above; marks = h.marks }
 
-module _ {d : Sizes} {h : Header} {w : List ℕ} {n : ℕ} (r : Rep d h w) (p : Ready d h (whole d h w) n) where
-  abbrev x : Whole
-  x = whole d h w
+-- ---- the notes of the clause
+
+-- the literals before place i are noted
+pub record Copying (s s' : Scratch) (i : ℕ) : Type 0 where
+  pub same : s' ≡ with_notes s s'.notes
+  pub cells : length s'.notes.cells ≡ length s.notes.cells
+  pub noted : s'.notes.items ++ drop i s.buffer.items ≡ drop 1 s.buffer.items
+
+module _ {a : Assignment} {c : Clauses} {s : Scratch} (p : Ready a c s) where
+  abbrev n : ℕ
+  n = length a.vars.values
 
   abbrev ls : List ℕ
-  ls = slice 1 n x.scratch.buffer
+  ls = drop 1 s.buffer.items
 
-  buffer_long : n ≤ length x.scratch.buffer
-  buffer_long = omega (arith, buffer_length d h w r, p.most)
+  of_trail : (q : ℕ) → q ∈ ls → var q < n
+  of_trail q i = rw var-neg at (var_range (neg q) n (in_range n c.clauses a.vars (newest a) p.clause.assignment.entries (neg q) (in_reverse a.vars.trail (p.clause.falsified q i))))
 
-  at : (k : ℕ) → 1 ≤ k → k < n → get_or x.scratch.buffer k 0 ∈ ls
-  at k o b = slice_at n x.scratch.buffer k o b buffer_long
+  fits : length ls + unseen s.marks ≤ n
+  fits = omega (arith, clause_room ls s.marks p.distinct p.clause.marks.all, p.clause.marks.sized)
 
-  pub ready_listed : Listed d x n
-  ready_listed =
-      record {
-        most = p.most;
-        range = λ k o b.
-            let q = get_or x.scratch.buffer k 0 in
-            rw var-neg at (var_range (neg q) d.vars
-            (in_range d.vars x.clauses.clauses x.assignment.vars (newest x) p.clause.assignment.entries (neg q)
-            (in_reverse x.assignment.vars.trail (p.clause.falsified q (at k o b)))));
-      }
+  -- the literals behind the first are of the variables
+  pub ready_var : (i : ℕ) → i < length ls → var (get_or ls i 0) < n
+  ready_var i h = of_trail (get_or ls i 0) (at_in ls i h)
 
-  module _ {u : List ℕ} (c : Copied d h x n u) where
-    noted_are : (k : ℕ) → k < length ls → get_or (whole d h u).scratch.notes k 0 ≡ get_or ls k 0
-    noted_are k b =
-        let s : suc k < n = omega (arith, length-slice 1 n x.scratch.buffer buffer_long) in
-        let e : suc k - 1 ≡ k = omega arith in
-        (rw e at (c.notes (suc k) (omega arith) s)) ∙ sym (slice_get n x.scratch.buffer k s)
+  pub copying_room : {s' : Scratch} {i : ℕ} → Copying s s' i → i < length s.buffer.items → length s'.notes.items < length s'.notes.cells
+  copying_room {s'} {i} g b =
+      let e : length s'.notes.items + length (drop i s.buffer.items) ≡ length ls =
+      sym (length-append s'.notes.items (drop i s.buffer.items)) ∙ ap (λ (xs : List ℕ). length xs) g.noted
+      in
+      omega (arith, e, length-drop i s.buffer.items, fits, g.cells, p.notes)
 
-    all_noted : Noted 0 (replicate d.vars 0) (whole d h u).scratch.notes (n - 1) x.scratch.marks (whole d h u).scratch.notes
-    all_noted =
-        rw (length-slice 1 n x.scratch.buffer buffer_long) at
-        (noted-clause d.vars x.scratch.marks ls p.clause.marks (whole d h u).scratch.notes (whole d h u).scratch.notes noted_are)
+  -- all are noted
+  module _ {u : Scratch} {i : ℕ} (g : Copying s u i) (b : length s.buffer.items ≤ i) where
+    all_noted : u.notes.items ≡ ls
+    all_noted = sym (append-nil u.notes.items) ∙ ap (λ (xs : List ℕ). u.notes.items ++ xs) (sym (drop_all i s.buffer.items b)) ∙ g.noted
 
-    pub ready_minimising : Minimising d (whole d h u) n (n - 1)
+    tidy : Tidy n (with_notes s u.notes)
+    tidy =
+        record {
+          marks = p.clause.marks.sized;
+          cells = p.clause.marks.cells;
+          stack = p.stack;
+          notes = omega (arith, fits, ap (λ (xs : List ℕ). length xs) all_noted, g.cells, p.notes);
+        }
+
+    pub ready_minimising : Minimising a c u
     ready_minimising =
-        let s = notes_length d h u c.holds.rep in
-        let l = length-slice 1 n x.scratch.buffer buffer_long in
-        rw c.holds.whole
+        subst (λ (x : Scratch). Minimising a c x) (sym g.same)
         (record {
           entries = p.clause.assignment.entries;
           filled = p.filled;
-          lits = λ k o b.
-              record {
-                set = in_reverse x.assignment.vars.trail (p.clause.falsified (get_or x.scratch.buffer k 0) (at k o b));
-                above = p.clause.above (get_or x.scratch.buffer k 0) (at k o b);
-                seen = p.clause.marks.all (get_or x.scratch.buffer k 0) (at k o b);
-              };
-          tidy =
-              record {
-                marks = marks_length d h w r;
-                stack = stack_length d h w r;
-                notes = s;
-                cells = p.clause.marks.cells;
-                stacked = omega (arith, unseen_most x.scratch.marks, marks_length d h w r);
-                noted = omega (arith, l, clause_room ls x.scratch.marks p.distinct p.clause.marks.all, marks_length d h w r);
-              };
           some = p.some;
-          most = p.most;
+          lits = λ q i.
+              record {
+                set = in_reverse a.vars.trail (p.clause.falsified q i);
+                above = p.clause.above q i;
+                seen = p.clause.marks.all q i;
+              };
+          tidy = tidy;
         })
 
-    module _ {mask : ℕ} (em : mask ≡ abstract_levels x.assignment.vars 0 ls) {v : List ℕ} {o : Kept} (k : Shrinks d h (whole d h u) mask n (n - 1) v o) where
-      f : (whole d h u).scratch ≡ with_notes x.scratch (whole d h u).scratch.notes
-      f = scratch_is d h u x (with_notes x.scratch (whole d h u).scratch.notes) c.holds
+    module _ {mask : ℕ} (em : mask ≡ abstract_levels a.vars 0 ls) {v : Scratch} (k : Shrinks a c u v mask) where
+      shrunk : Shrinks a c (with_notes s u.notes) v mask
+      shrunk = subst (λ (x : Scratch). Shrinks a c x v mask) g.same k
 
-      noted-all : Noted 0 (replicate d.vars 0) (whole d h u).scratch.notes o.noted (whole d h v).scratch.marks (whole d h v).scratch.notes
-      noted-all =
-          noted_then 0 (replicate d.vars 0) (whole d h u).scratch.notes (n - 1) x.scratch.marks (whole d h u).scratch.notes o.noted
-          (whole d h v).scratch.marks (whole d h v).scratch.notes (k.tidy.marks ∙ sym (marks_length d h w r)) all_noted
-          (rw (ap (λ (z : Scratch). z.marks) f) at k.notes)
+      made : Made (replicate n 0) v.notes.items v.marks
+      made =
+          let h = shrunk.going in
+          subst (λ (xs : List ℕ). Made (replicate n 0) xs v.marks) (sym (h.noted ∙ ap (λ (xs : List ℕ). xs ++ h.new) all_noted))
+          (made_then (replicate n 0) ls s.marks h.new v.marks (h.tidy.marks ∙ sym p.clause.marks.sized) (made_clause n s.marks ls p.clause.marks) h.made)
 
-      pub ready_clear : Clearable d (whole d h v) 0 o.noted
-      ready_clear =
-          record {
-            order = omega arith;
-            room = omega (arith, k.tidy.noted);
-            range = λ j a b. omega (arith, noted-all.range j a b, k.tidy.marks);
-          }
+      pub ready_noted : Noted v.marks v.notes 0
+      ready_noted = record { low = omega arith; range = made.range }
 
-      beside_all : Beside d h x v
-      beside_all = beside_then d h x u v (beside_next d h x w u (beside_start d h w r) (with_notes x.scratch (whole d h u).scratch.notes) c.holds) k.beside
-
-      left_is : slice 1 o.kept (whole d h v).scratch.buffer ≡ minimize_conflict 2 (state_of h x).store x.assignment.vars ls x.scratch.marks
+      pub ready_minimised : (m : List ℕ) (y : Row) → Undone v.marks m v.notes y 0 → Minimised a c s (record { marks = m; buffer = v.buffer; stack = v.stack; notes = y })
       unfolding minimize_conflict
-      left_is = rw (c.holds.whole, em) at k.result
-
-      first : get_or (whole d h v).scratch.buffer 0 0 ≡ get_or x.scratch.buffer 0 0
-      first = k.first ∙ ap (λ (s : Scratch). get_or s.buffer 0 0) f
-
-      pub ready_minimised : {y : List ℕ}
-          → Holds d h y (with_scratch (whole d h v) (with_marks (whole d h v).scratch (undo (whole d h v).scratch.notes 0 (o.noted - 0) (whole d h v).scratch.marks)))
-          → Minimised d h x n y o.kept
-      ready_minimised {y} e =
-          let z = scratch_is d h y (whole d h v) (with_marks (whole d h v).scratch (undo (whole d h v).scratch.notes 0 (o.noted - 0) (whole d h v).scratch.marks)) e in
-          let b : (whole d h y).scratch.buffer ≡ (whole d h v).scratch.buffer = ap (λ (s : Scratch). s.buffer) z in
-          let l : o.kept ≤ length (whole d h v).scratch.buffer = omega (arith, buffer_length d h v k.beside.rep, k.high, p.most) in
+      ready_minimised m y d =
           record {
-            beside = beside_next d h x v y beside_all _ e;
-            marks = ap (λ (s : Scratch). s.marks) z ∙ noted-all.back;
-            some = k.low;
-            most = k.high;
-            clause = rw b (head_first (whole d h v).scratch.buffer o.kept k.low l ∙ ap₂ (λ (q : ℕ) (qs : List ℕ). q ∷ qs) first left_is);
+            marks = d.marks ∙ made.back;
+            most = shrunk.most;
+            clause = λ ws. rw em at (shrunk.clause ws);
+            buffer = shrunk.cells;
+            stack = shrunk.going.stack;
+            notes = ap (λ (x : Row). length x.cells) d.notes ∙ shrunk.going.notes ∙ g.cells;
           }

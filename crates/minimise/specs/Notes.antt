@@ -1,120 +1,140 @@
 -- The marks made so far, noted so that they can be taken back, newest first.
-use Rattle.std.specs.Prelude.{ℕ, zero, suc, ◌+◌, ◌-◌, ◌≤◌, ◌<◌, ◌≡◌, refl, ◌⊎◌, true, List, [], ◌∷◌, length, get_or, set, replicate}
-use Rattle.std.proofs.Common.{arith, ap, sym, ◌∙◌, inl, inr, length-set, get_or-set_same, get_or-set_other, set-set, ext_get_or, eqb-true}
+use Rattle.std.specs.Prelude.{ℕ, zero, suc, ◌+◌, ◌-◌, ◌≤◌, ◌<◌, ◌≡◌, refl, ◌⊎◌, true, List, [], ◌∷◌, ◌++◌, length, get_or, set, take, drop, replicate}
+use Rattle.std.proofs.Common.{arith, ap, ap₂, sym, ◌∙◌, inl, inr, length-set, get_or-set_same, get_or-set_other, set-set, ext_get_or, eqb-true, take_all, length-append}
 use mathlib.Core.List.Memᴰ.{head as here}
+use mathlib.Core.List.Memᴰ.{not-nil}
 use mathlib.Core.List.Memᴰ.{tail as there}
-use Rattle.std.proofs.lemmas.List.{length-replicate, get_or-replicate, set-get_or}
-use Rattle.std.proofs.Math.ListN.{get_or-eq_default}
-use Rattle.std.proofs.Math.Seq.{set_out}
+use Rattle.std.proofs.lemmas.List.{length-replicate, get_or-replicate, set-get_or, drop-append-le, take-append-le, drop_all}
+use Rattle.std.proofs.Math.ListN.{get_or-eq_default, get_or-append}
+use Rattle.std.proofs.Math.Seq.{set_out, get_or-append_seam, get_or-append_right}
 use Rattle.std.proofs.lemmas.Bool.{eqb-false}
 use Rattle.model.specs.Lit.{var}
 use Rattle.model.specs.Minimise.{is_seen}
+use Rattle.trail.specs.View.{LitsOf}
+use Rattle.scratch.specs.Row.{Row}
 use Rattle.lawbase.specs.Basics.{◌∈◌, Every, split, same?, on?, less?}
 use Rattle.lawbase.specs.WellFormed.{Distinct}
 use Rattle.learning.specs.Marks.{seen_at, MarksOf, unseen}
-use Rattle.learning.proofs.Marks.{unseen-mark, unseen_most, mark_other, clear_same, cell}
+use Rattle.learning.proofs.Marks.{unseen-mark, unseen_most, mark_other, clear_same}
 
--- the marks m when those of k notes, from place `from` on, are taken back
-unfoldable pub undo : List ℕ → ℕ → ℕ → List ℕ → List ℕ
-undo ns from zero m = m
-undo ns from (suc k) m = undo ns from k (set m (var (get_or ns (from + k) 0)) 0)
+-- the marks m when those of the notes are taken back, the last note first
+unfoldable pub undo : List ℕ → List ℕ → List ℕ
+undo [] m = m
+undo (q ∷ ns) m = set (undo ns m) (var q) 0
 
-pub undo-length : (ns : List ℕ) (from k : ℕ) (m : List ℕ) → length (undo ns from k m) ≡ length m
+pub undo-length : (ns m : List ℕ) → length (undo ns m) ≡ length m
 unfolding undo
-undo-length ns from zero m = refl
-undo-length ns from (suc k) m = undo-length ns from k (set m (var (get_or ns (from + k) 0)) 0) ∙ length-set m (var (get_or ns (from + k) 0)) 0
+undo-length [] m = refl
+undo-length (q ∷ ns) m = length-set (undo ns m) (var q) 0 ∙ undo-length ns m
 
--- only the notes up to there are read
-pub undo_agree : (ns us : List ℕ) (from k : ℕ) (m : List ℕ) → ((j : ℕ) → j < from + k → get_or us j 0 ≡ get_or ns j 0) → undo us from k m ≡ undo ns from k m
+pub undo-append : (ns us m : List ℕ) → undo (ns ++ us) m ≡ undo ns (undo us m)
 unfolding undo
-undo_agree ns us from zero m h = refl
-undo_agree ns us from (suc k) m h =
-    undo_agree ns us from k (set m (var (get_or us (from + k) 0)) 0) (λ j g. h j (omega arith))
-    ∙ ap (λ (q : ℕ). undo ns from k (set m (var q) 0)) (h (from + k) (omega arith))
+undo-append [] us m = refl
+undo-append (q ∷ ns) us m = ap (λ (k : List ℕ). set k (var q) 0) (undo-append ns us m)
 
--- first the newer ones
-pub undo-split : (ns : List ℕ) (from k j n : ℕ) (m : List ℕ) → k + j ≡ n → undo ns from n m ≡ undo ns from k (undo ns (from + k) j m)
+pub undo_last : (ns : List ℕ) (q : ℕ) (m : List ℕ) → undo (ns ++ (q ∷ [])) m ≡ undo ns (set m (var q) 0)
 unfolding undo
-undo-split ns from k zero n m e = let z : n ≡ k = omega arith in rw z
-undo-split ns from k (suc j) zero m e = absurd (omega arith)
-undo-split ns from k (suc j) (suc n) m e =
-    let z : from + n ≡ from + k + j = omega arith in
-    undo-split ns from k j n (set m (var (get_or ns (from + n) 0)) 0) (omega arith)
-    ∙ ap (λ (i : ℕ). undo ns from k (undo ns (from + k) j (set m (var (get_or ns i 0)) 0))) z
+undo_last ns q m = undo-append ns (q ∷ []) m
 
-pub undo_last : (ns : List ℕ) (from t : ℕ) (m : List ℕ) → from < t → undo ns from (t - from) m ≡ undo ns from (t - 1 - from) (set m (var (get_or ns (t - 1) 0)) 0)
+pub undo_none : (m : List ℕ) → undo [] m ≡ m
 unfolding undo
-undo_last ns from t m h =
-    let e : t - from ≡ suc (t - 1 - from) = omega arith in
-    let z : from + (t - 1 - from) ≡ t - 1 = omega arith in
-    rw (e, undo, z)
+undo_none m = refl
 
-pub undo_none : (ns : List ℕ) (from t : ℕ) (m : List ℕ) → t ≤ from → undo ns from (t - from) m ≡ m
-unfolding undo
-undo_none ns from t m h =
-    let e : t - from ≡ 0 = omega arith in
-    rw e refl
+-- ---- literals of the variables
 
--- since place t0 of the notes, marks were made that can be taken back
-pub record Noted (t0 : ℕ) (m0 ns0 : List ℕ) (t : ℕ) (m ns : List ℕ) : Type 0 where
-  pub later : t0 ≤ t
-  pub agree : (k : ℕ) → k < t0 → get_or ns k 0 ≡ get_or ns0 k 0
-  pub range : (k : ℕ) → t0 ≤ k → k < t → var (get_or ns k 0) < length m
-  pub back : undo ns t0 (t - t0) m ≡ m0
+pub lits_append : (n : ℕ) (ps qs : List ℕ) → LitsOf n ps → LitsOf n qs → LitsOf n (ps ++ qs)
+lits_append n ps qs f g i h = split (less? i (length ps))
+    (λ b. rw (get_or-append ps qs 0 i b) (f i b))
+    (λ b. rw (get_or-append_right ps qs i 0 b) (g (i - length ps) (omega (arith, length-append ps qs))))
 
-pub noted_start : (t : ℕ) (m ns : List ℕ) → Noted t m ns t m ns
-unfolding undo
-noted_start t m ns =
-    let z : t - t ≡ 0 = omega arith in
-    record { later = omega arith; agree = λ k g. refl; range = λ k g h. absurd (omega arith); back = rw z refl }
+pub lits_one : (n q : ℕ) → var q < n → LitsOf n (q ∷ [])
+lits_one n q h zero b = h
+lits_one n q h (suc i) b = absurd (omega arith)
 
--- no mark was made yet
-pub noted_none : (t : ℕ) (m ns m0 ns0 : List ℕ) → Noted t m0 ns0 t m ns → m ≡ m0
-noted_none t m ns m0 ns0 r = sym (undo_none ns t t m (omega arith)) ∙ r.back
+module _ (n : ℕ) (ps : List ℕ) (q : ℕ) (f : LitsOf n (ps ++ (q ∷ []))) where
+  pub lits_front : LitsOf n ps
+  lits_front i b = rw (get_or-append ps (q ∷ []) 0 i b) at (f i (omega (arith, length-append ps (q ∷ []))))
 
-pub noted-push : (t0 : ℕ) (m0 ns0 : List ℕ) (t : ℕ) (m ns : List ℕ) (l : ℕ) → t < length ns → var l < length m → get_or m (var l) 0 ≡ 0
-    → Noted t0 m0 ns0 t m ns → Noted t0 m0 ns0 (t + 1) (set m (var l) 1) (set ns t l)
-unfolding undo
-noted-push t0 m0 ns0 t m ns l h v z r =
+  pub lits_last : var q < n
+  lits_last =
+      let l : length (ps ++ (q ∷ [])) ≡ length ps + 1 = length-append ps (q ∷ []) in
+      rw (get_or-append_seam ps q [] 0) at (f (length ps) (omega (arith, l)))
+
+-- ---- marks that can be taken back
+
+-- the marks m0 became m, and the notes say by which
+pub record Made (m0 ns m : List ℕ) : Type 0 where
+  pub range : LitsOf (length m) ns
+  pub back : undo ns m ≡ m0
+
+pub made_none : (m : List ℕ) → Made m [] m
+made_none m = record { range = λ i h. absurd (omega arith); back = undo_none m }
+
+pub made_more : (m0 ns m : List ℕ) (l : ℕ) → var l < length m → get_or m (var l) 0 ≡ 0 → Made m0 ns m → Made m0 (ns ++ (l ∷ [])) (set m (var l) 1)
+made_more m0 ns m l v z r =
     record {
-      later = omega (arith, r.later);
-      agree = λ k g. get_or-set_other ns t k l 0 (λ e. omega (arith, r.later)) ∙ r.agree k g;
-      range = λ k g u. rw (length-set m (var l) 1) (reach k g u);
-      back = rw step newest;
+      range = rw (length-set m (var l) 1) (lits_append (length m) ns (l ∷ []) r.range (lits_one (length m) l v));
+      back = undo_last ns l (set m (var l) 1) ∙ ap (undo ns) cleared ∙ r.back;
     }
   where
-    step : t + 1 - t0 ≡ suc (t - t0)
-    step = omega (arith, r.later)
-
-    reach : (k : ℕ) → t0 ≤ k → k < t + 1 → var (get_or (set ns t l) k 0) < length m
-    reach k g u = split (same? k t)
-        (λ e. rw (e, get_or-set_same ns t l 0 h) v)
-        (λ ne. rw (get_or-set_other ns t k l 0 ne) (r.range k g (omega arith)))
-
-    last : t0 + (t - t0) ≡ t
-    last = omega (arith, r.later)
-
     cleared : set (set m (var l) 1) (var l) 0 ≡ m
     cleared = set-set m (var l) 1 0 ∙ ap (λ (x : ℕ). set m (var l) x) (sym z) ∙ set-get_or m (var l) 0
 
-    newest : undo (set ns t l) t0 (t - t0) (set (set m (var l) 1) (var (get_or (set ns t l) (t0 + (t - t0)) 0)) 0) ≡ m0
-    newest =
-        rw (last, get_or-set_same ns t l 0 h, cleared)
-        (undo_agree ns (set ns t l) t0 (t - t0) m (λ j g. get_or-set_other ns t j l 0 (λ e. omega (arith, r.later))) ∙ r.back)
-
-pub noted_then : (t0 : ℕ) (m0 ns0 : List ℕ) (t : ℕ) (m ns : List ℕ) (t' : ℕ) (m' ns' : List ℕ) → length m' ≡ length m
-    → Noted t0 m0 ns0 t m ns → Noted t m ns t' m' ns' → Noted t0 m0 ns0 t' m' ns'
-noted_then t0 m0 ns0 t m ns t' m' ns' s a b =
-    let e : t0 + (t - t0) ≡ t = omega (arith, a.later) in
+pub made_then : (m0 ns m us k : List ℕ) → length k ≡ length m → Made m0 ns m → Made m us k → Made m0 (ns ++ us) k
+made_then m0 ns m us k s a b =
     record {
-      later = omega (arith, a.later, b.later);
-      agree = λ k g. b.agree k (omega (arith, a.later)) ∙ a.agree k g;
-      range = λ k g h. split (less? k t)
-          (λ u. rw (b.agree k u, s) (a.range k g u))
-          (λ u. b.range k u h);
-      back = undo-split ns' t0 (t - t0) (t' - t) (t' - t0) m' (omega (arith, a.later, b.later))
-          ∙ rw (e, b.back) (undo_agree ns ns' t0 (t - t0) m (λ j g. b.agree j (omega (arith, a.later))) ∙ a.back);
+      range = lits_append (length k) ns us (rw s a.range) b.range;
+      back = undo-append ns us k ∙ ap (undo ns) b.back ∙ a.back;
     }
+
+-- ---- taking marks back
+
+-- there are n notes or more, and those behind are of the variables
+pub record Noted (m : List ℕ) (r : Row) (n : ℕ) : Type 0 where
+  pub low : n ≤ length r.items
+  pub range : LitsOf (length m) (drop n r.items)
+
+-- the marks of the notes behind the first n are taken back, and these notes are gone
+pub record Undone (m m' : List ℕ) (r r' : Row) (n : ℕ) : Type 0 where
+  pub marks : m' ≡ undo (drop n r.items) m
+  pub notes : r' ≡ record { items = take n r.items; cells = r.cells }
+
+-- those of the notes that are left are still to be taken back
+pub record Undoing (m m' : List ℕ) (r r' : Row) (n : ℕ) : Type 0 where
+  pub noted : Noted m' r' n
+  pub rest : undo (drop n r.items) m ≡ undo (drop n r'.items) m'
+  pub first : take n r'.items ≡ take n r.items
+  pub cells : r'.cells ≡ r.cells
+
+module _ {m m' : List ℕ} {r r' : Row} {n : ℕ} (g : Undoing m m' r r' n) where
+  module _ (u : Row) (q : ℕ) (b : n < length r'.items) (e : r'.items ≡ u.items ++ (q ∷ [])) where
+    longer : length r'.items ≡ length u.items + 1
+    longer = ap (λ (xs : List ℕ). length xs) e ∙ length-append u.items (q ∷ [])
+
+    dropped : drop n r'.items ≡ drop n u.items ++ (q ∷ [])
+    dropped = ap (drop n) e ∙ drop-append-le n u.items (q ∷ []) (omega (arith, longer))
+
+    lits : LitsOf (length m') (drop n u.items ++ (q ∷ []))
+    lits = rw dropped at g.noted.range
+
+    pub undoing_var : var q < length m'
+    undoing_var = lits_last (length m') (drop n u.items) q lits
+
+    pub undoing_turn : u.cells ≡ r'.cells → Undoing m (set m' (var q) 0) r u n
+    undoing_turn c =
+        record {
+          noted = record { low = omega (arith, longer); range = rw (length-set m' (var q) 0) (lits_front (length m') (drop n u.items) q lits) };
+          rest = g.rest ∙ ap (λ (xs : List ℕ). undo xs m') dropped ∙ undo_last (drop n u.items) q m';
+          first = sym (ap (take n) e ∙ take-append-le n u.items (q ∷ []) (omega (arith, longer))) ∙ g.first;
+          cells = c ∙ g.cells;
+        }
+
+  pub undoing_end : length r'.items ≤ n → Undone m m' r r' n
+  undoing_end b =
+      record {
+        marks = sym (g.rest ∙ ap (λ (xs : List ℕ). undo xs m') (drop_all n r'.items b) ∙ undo_none m');
+        notes = ap₂ (λ (i c : List ℕ). record { items = i; cells = c }) (sym (take_all n r'.items b) ∙ g.first) g.cells;
+      }
 
 -- ---- the marks of a clause, noted in its order
 
@@ -124,29 +144,21 @@ zero-set m v = split (less? v (length m))
     (λ h. rw (set_out m v 0 h) (get_or-eq_default m 0 {n = v} h))
 
 -- what is 0 stays 0, and what is noted becomes 0
-undo-zero : (ns : List ℕ) (k : ℕ) (m : List ℕ) (v : ℕ) → (get_or m v 0 ≡ 0) ⊎ ((j : ℕ) × (j < k) × (var (get_or ns j 0) ≡ v)) → get_or (undo ns 0 k m) v 0 ≡ 0
+undo-zero : (ns m : List ℕ) (v : ℕ) → (get_or m v 0 ≡ 0) ⊎ ((q : ℕ) × (q ∈ ns) × (var q ≡ v)) → get_or (undo ns m) v 0 ≡ 0
 unfolding undo
-undo-zero ns zero m v h = split h (λ z. z) (λ x. absurd (omega (arith, x.1)))
-undo-zero ns (suc k) m v h =
-    undo-zero ns k (set m (var (get_or ns (0 + k) 0)) 0) v
-    (split h
-    (λ z. inl (cell (λ (x : ℕ). x ≡ 0) m (var (get_or ns (0 + k) 0)) 0 v (λ _. refl) z))
-    (λ x. split (same? x.0 k)
-    (λ e. inl (zeroed (sym x.2 ∙ ap (λ (i : ℕ). var (get_or ns i 0)) e)))
-    (λ ne. inr (x.0, omega (arith, x.1), x.2))))
+undo-zero [] m v h = split h (λ z. z) (λ x. absurd (not-nil x.1))
+undo-zero (q ∷ ns) m v h = split (same? v (var q))
+    (λ e. rw e (zero-set (undo ns m) (var q)))
+    (λ ne. get_or-set_other (undo ns m) (var q) v 0 0 ne ∙ undo-zero ns m v (split h inl (λ x. inr (x.0, behind ne x.1 x.2, x.2))))
   where
-    zeroed : v ≡ var (get_or ns k 0) → get_or (set m (var (get_or ns (0 + k) 0)) 0) v 0 ≡ 0
-    zeroed e = let z : 0 + k ≡ k = omega arith in rw (z, e) (zero-set m (var (get_or ns k 0)))
+    behind : {u : ℕ} → (v ≡ var q → ⊥) → u ∈ (q ∷ ns) → var u ≡ v → u ∈ ns
+    behind ne (here e) f = absurd (ne (sym f ∙ ap var e))
+    behind ne (there i) f = i
 
 pub at_in : (ls : List ℕ) (k : ℕ) → k < length ls → get_or ls k 0 ∈ ls
 at_in [] k h = absurd (omega arith)
 at_in (l ∷ ls) zero h = here refl
 at_in (l ∷ ls) (suc k) h = there (at_in ls k (omega arith))
-
-in_at : (ls : List ℕ) (q : ℕ) → q ∈ ls → (k : ℕ) × (k < length ls) × (get_or ls k 0 ≡ q)
-in_at [] q x' = elim x' [ ]
-in_at (l ∷ ls) q (here e) = (0, omega arith, sym e)
-in_at (l ∷ ls) q (there i) = let r = in_at ls q i in (suc r.0, omega (arith, r.1), r.2)
 
 pub seen_range : (m : List ℕ) (v : ℕ) → seen_at m v ≡ true → v < length m
 seen_range m v h = split (less? v (length m)) (λ g. g)
@@ -165,30 +177,20 @@ clause_room (l ∷ ls) m d h =
     let r = clause_room ls (set m (var l) 0) d.1 (λ q i. mark_other m (var l) 0 (var q) (d.0 q i) ∙ h q (there i)) in
     omega (arith, r, unseen_clear m (var l) (h l (here refl)), length-set m (var l) 0)
 
-module _ (n : ℕ) (m ls : List ℕ) (h : MarksOf n m ls) (ns ns0 : List ℕ) (e : (k : ℕ) → k < length ls → get_or ns k 0 ≡ get_or ls k 0) where
-  taken_back : (v : ℕ) → v < length (undo ns 0 (length ls - 0) m) → get_or (undo ns 0 (length ls - 0) m) v 0 ≡ get_or (replicate n 0) v 0
+module _ (n : ℕ) (m ls : List ℕ) (h : MarksOf n m ls) where
+  taken_back : (v : ℕ) → v < length (undo ls m) → get_or (undo ls m) v 0 ≡ get_or (replicate n 0) v 0
   taken_back v g =
-      let z : length ls - 0 ≡ length ls = omega arith in
-      let b : v < n = omega (arith, undo-length ns 0 (length ls - 0) m, h.sized) in
-      rw (z, get_or-replicate {A = ℕ} n v 0 0 b)
-      (undo-zero ns (length ls) m v
+      let b : v < n = omega (arith, undo-length ls m, h.sized) in
+      rw (get_or-replicate {A = ℕ} n v 0 0 b)
+      (undo-zero ls m v
       (split (on? (seen_at m v))
-      (λ s. inr (place s))
+      (λ s. inr (h.only v s))
       (λ s. inl (omega (arith, h.cells v, eqb-false (get_or m v 0) 1 s)))))
-    where
-      place : seen_at m v ≡ true → (j : ℕ) × (j < length ls) × (var (get_or ns j 0) ≡ v)
-      place s =
-          let x = h.only v s in
-          let y = in_at ls x.0 x.1 in
-          (y.0, y.1, ap var (e y.0 y.1 ∙ y.2) ∙ x.2)
 
   -- a clause's marks, when its literals are noted
-  pub noted-clause : Noted 0 (replicate n 0) ns0 (length ls) m ns
-  noted-clause =
+  pub made_clause : Made (replicate n 0) ls m
+  made_clause =
       record {
-        later = omega arith;
-        agree = λ k g. absurd (omega arith);
-        range = λ k _ g. rw (e k g) (seen_range m (var (get_or ls k 0)) (h.all (get_or ls k 0) (at_in ls k g)));
-        back = ext_get_or 0 (undo ns 0 (length ls - 0) m) (replicate n 0)
-            (undo-length ns 0 (length ls - 0) m ∙ h.sized ∙ sym (length-replicate {A = ℕ} n 0)) taken_back;
+        range = λ k g. seen_range m (var (get_or ls k 0)) (h.all (get_or ls k 0) (at_in ls k g));
+        back = ext_get_or 0 (undo ls m) (replicate n 0) (undo-length ls m ∙ h.sized ∙ sym (length-replicate {A = ℕ} n 0)) taken_back;
       }

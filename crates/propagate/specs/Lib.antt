@@ -1,4 +1,3 @@
-pub mod Tests
 pub mod Visit
 pub mod View
 pub mod Laws

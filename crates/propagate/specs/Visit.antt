@@ -180,9 +180,6 @@ list_at p s = get_or s.store.watches p []
 abbrev pub to_visit : ℕ → ℕ → State → Propagated
 to_visit p i s = visit p (take i (list_at p s)) (drop i (list_at p s)) s
 
-pub visit_start : (p i : ℕ) (s : State) → i ≡ 0 → to_visit p i s ≡ visit p [] (list_at p s) s
-visit_start p i s e = rw e
-
 pub visit_end : (p i : ℕ) (s : State) → length (list_at p s) ≤ i → to_visit p i s ≡ record { state = s; conflict = none }
 unfolding visit
 visit_end p i s h =

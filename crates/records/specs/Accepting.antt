@@ -1,44 +1,30 @@
--- An accepted script: its sizes, and the parts of the slices that are the run's own.
-use Rattle.std.specs.Prelude.{ℕ, ◌+◌, ◌*◌, ◌-◌, ◌≤◌, ◌≡◌, List, ◌++◌, length, take, drop, replicate}
+-- An accepted script: the parts of the slices that are the run's own.
+use Rattle.std.specs.Prelude.{ℕ, ◌-◌, ◌≤◌, ◌≡◌, List, ◌++◌, length, take, drop, replicate}
 use Rattle.std.proofs.Common.{arith, sym, ◌∙◌, subst, length-take-le}
 use Rattle.std.proofs.Math.Path.{ap}
-use Rattle.model.specs.Limits as Limits
-use Rattle.model.specs.Script.{header, records_of, work_needed}
+use Rattle.model.specs.Script.{header, work_needed}
 use Rattle.model.specs.Script as Script
-use Rattle.ends.specs.Bounds.{Limited}
 use Rattle.script.specs.Accepted.{Accepted}
+use Rattle.script.specs.declared.Script as code
+use Rattle.script.specs.Front as script
+use Rattle.ends.specs.Bounds.{Limited}
 use Rattle.laws.proofs.Run.{limited}
-use Rattle.state.specs.declared.Config.{Config}
-use Rattle.state.specs.Still.{config_of}
 use Rattle.records.specs.Recording.{Lent}
 
-module _ (g : Config) (s : List ℕ) (work activities out : ℕ) (a : Accepted s work activities out) (e : config_of g ≡ header s) where
-  sizes : Limited (config_of g)
-  sizes = subst Limited (sym e) (limited s work activities out a)
+module _ (s : code.Script) (work activities out : ℕ) (a : Accepted s.cells.now work activities out) where
+  pub vars_fit : s.header.variables ≤ activities
+  vars_fit = omega (arith, a.activities_fit, ap (λ (c : Script.Config). c.variables) s.of_header)
 
-  lits : g.sizes.lit_room ≤ Limits.max_literals
-  lits = omega (arith, a.header_fits.literals, ap (λ (c : Script.Config). c.max_literals) e)
-
-  -- the cells that a run asks of work
-  need_is : Limits.work_per_variable * g.sizes.vars + Limits.work_per_clause * g.sizes.room + g.sizes.lit_room + Limits.work_besides ≡ work_needed (header s)
-  unfolding work_needed
-  need_is = ap work_needed e
-
-  pub vars_are : g.sizes.vars ≡ (header s).variables
-  vars_are = ap (λ (c : Script.Config). c.variables) e
-
-  pub vars_fit : g.sizes.vars ≤ activities
-  vars_fit = omega (arith, vars_are, a.activities_fit)
-
-  pub lent : (n m : ℕ) → n ≡ work_needed (header s) → m ≡ g.sizes.vars → Lent g s n m out
+  pub lent : (n m : ℕ) → n ≡ work_needed (script.config_of s.header) → m ≡ s.header.variables → Lent s n m out
   lent n m f h =
+      let v : s.header.variables ≡ (header s.cells.now).variables = ap (λ (c : Script.Config). c.variables) s.of_header in
       record {
-        config = e;
-        limited = sizes;
-        room = record { fits = omega (arith, f, need_is); some = sizes.least_variables; vars = sizes.variables; room = sizes.clauses; lit_room = lits };
+        limited = subst Limited (sym s.of_header) (limited s.cells.now work activities out a);
+        work = f;
         counted = h;
-        records = rw vars_are a.records_fit;
-        fits = rw vars_are a.out_fits;
+        literals = omega (arith, a.header_fits.literals, ap (λ (c : Script.Config). c.max_literals) s.of_header);
+        records = rw v a.records_fit;
+        fits = rw v a.out_fits;
       }
 
 module _ {A : Type 0} (w : List A) (n : ℕ) (h : n ≤ length w) where

@@ -1,16 +1,8 @@
--- Every cell of the block shows.
-use Rattle.std.specs.Prelude.{ℕ, ◌≡◌, List, ◌∷◌, [], length}
-use Rattle.std.proofs.Common.{sym, ap, ◌∙◌}
-use Rattle.region.specs.Split.{total}
-use Rattle.region.specs.Whole.{split_same}
-use Rattle.scratch.specs.View.{Scratch, shape, view}
-use Rattle.scratch.specs.declared.ScratchSize.{ScratchSize}
+-- Every cell of a list's slice shows. The value of marks is their slice.
+use Rattle.std.specs.Prelude.{ℕ, ◌≡◌, List}
+use Rattle.std.proofs.Common.{ap}
+use Rattle.scratch.specs.Row.{Row, row}
 
--- the regions that the marks and buffers show
-abbrev regions : Scratch → List (List ℕ)
-regions s = s.marks ∷ s.buffer ∷ s.stack ∷ s.notes ∷ []
-
--- two slices of the block's length that show the same are the same
-pub all_shown : (d : ScratchSize) (w w' : List ℕ) → total (shape d) ≡ length w → length w ≡ length w' → view d w ≡ view d w' → w ≡ w'
-unfolding view
-all_shown d w w' l l' e = split_same (shape d) w w' (sym l) (sym l' ∙ sym l) (ap regions e)
+-- two slices that show the same are the same
+pub all_shown : (n n' : ℕ) (cells cells' : List ℕ) → row n cells ≡ row n' cells' → cells ≡ cells'
+all_shown n n' cells cells' e = ap (λ (r : Row). r.cells) e

@@ -1,100 +1,190 @@
 // What conflict analysis and intake write beside the state: a mark by variable, a buffer for a clause, a stack of literals to trace, and the literals
-// whose marks are to be taken back. It stands in a slice of its own.
+// whose marks are to be taken back.
 #![tactic(auto)]
 
-ghost use Rattle.std.specs.Prelude.{◌≡◌, ◌*◌, ◌<◌, length, get_or, replicate};
-ghost use Rattle.scratch.specs.View.{Room, Holds, view, marked, buffered, stacked, noted, unmarked};
+ghost use Rattle.std.specs.Prelude.{◌≡◌, ◌*◌, ◌≤◌, ◌<◌, [], ◌∷◌, ◌++◌, eqb, length, get_or, set, take, drop, replicate};
+ghost use Rattle.std.specs.List.Sorted.{IsPermutation, IsNonDecreasing};
+ghost use Rattle.scratch.specs.Row.{Sound, row, pushed, put};
 
 use clause::{Lit, Var};
+use std::marker::Model;
 
-#[derive(Clone, Copy)]
-pub struct ScratchSize {
-    pub vars: usize,
+// A mark by variable: 1 where it is set, and else 0.
+#[derive(Drop)]
+pub struct Marks<'a> {
+    cells: &'a mut [u32],
 }
 
-// A variable's mark.
-pub fn mark(d: ScratchSize, s: &[u32], v: Var) -> u32
-    requires room { Room d (length s.now) }
-    requires v_lt_vars { v.0 < d.vars }
-    ensures { result ≡ get_or (view d s.now).marks v.0 0 }
-{
-    let i = v.0 as usize;
-    s[i]
+impl<'a> Model for Marks<'a> {
+    ghost use Rattle.std.specs.Prelude.{ℕ, List};
+
+    ghost Value = { List ℕ };
+
+    ghost view = { λ m. m.cells.now };
 }
 
-pub fn set_mark(d: ScratchSize, s: &mut [u32], v: Var, x: u32)
-    requires room { Room d (length s.old) }
-    requires v_lt_vars { v.0 < d.vars }
-    ensures { Holds d s.new (marked (view d s.old) v.0 x) }
-{
-    let i = v.0 as usize;
-    s[i] = x;
+impl<'a> Marks<'a> {
+    // No mark is set, whatever the slice held.
+    pub fn new(cells: &'a mut [u32]) -> Marks<'a>
+        ensures { result ≡ replicate (length cells.old) 0 }
+    {
+        cells.fill(0);
+        Marks { cells }
+    }
+
+    pub fn is_set(&self, v: Var) -> bool
+        requires { v.0 < length self.now }
+        ensures { result ≡ eqb (get_or self.now v.0 0) 1 }
+    {
+        self.cells[v.0 as usize] == 1
+    }
+
+    pub fn set(&mut self, v: Var)
+        requires { v.0 < length self.old }
+        ensures { self.new ≡ set self.old v.0 1 }
+    {
+        self.cells[v.0 as usize] = 1;
+    }
+
+    pub fn unset(&mut self, v: Var)
+        requires { v.0 < length self.old }
+        ensures { self.new ≡ set self.old v.0 0 }
+    {
+        self.cells[v.0 as usize] = 0;
+    }
 }
 
-// Literal k of the buffer.
-pub fn buffer_at(d: ScratchSize, s: &[u32], k: usize) -> Lit
-    requires room { Room d (length s.now) }
-    requires k_bound { k < 2 * d.vars }
-    ensures { result.0 ≡ get_or (view d s.now).buffer k 0 }
-{
-    let n = d.vars;
-    Lit(s[n + k])
+// A list of literals in cells that are lent, as many as they have room for.
+#[derive(Drop)]
+pub struct Lits<'a> {
+    cells: &'a mut [u32],
+    len: usize,
 }
 
-pub fn set_buffer(d: ScratchSize, s: &mut [u32], k: usize, p: Lit)
-    requires room { Room d (length s.old) }
-    requires k_bound { k < 2 * d.vars }
-    ensures { Holds d s.new (buffered (view d s.old) k p.0) }
-{
-    let n = d.vars;
-    s[n + k] = p.0;
+impl<'a> Model for Lits<'a> {
+    ghost use Rattle.std.specs.Prelude.{◌≤◌, length};
+    ghost use Rattle.scratch.specs.Row.{Row, row};
+
+    ghost Value = { Row };
+
+    ghost view = { λ l. row l.len l.cells.now };
+
+    ghost invariant = { λ l. l.len ≤ length l.cells.now };
 }
 
-// Literal k of the stack.
-pub fn stack_at(d: ScratchSize, s: &[u32], k: usize) -> Lit
-    requires room { Room d (length s.now) }
-    requires k_lt_vars { k < d.vars }
-    ensures { result.0 ≡ get_or (view d s.now).stack k 0 }
-{
-    let n = d.vars;
-    Lit(s[3 * n + k])
+impl<'a> Lits<'a> {
+    // The empty list. The cells stay as they are.
+    pub fn new(cells: &'a mut [u32]) -> Lits<'a>
+        ensures { result ≡ row 0 cells.old }
+    {
+        Lits { cells, len: 0 }
+    }
+
+    // What is true of every list, for a caller's proof.
+    pub fn sound(&self)
+        ensures { Sound self.now }
+    {
+        let _ = &self.cells;
+    }
+
+    pub fn len(&self) -> usize
+        ensures { result ≡ length self.now.items }
+    {
+        self.len
+    }
+
+    pub fn items(&self) -> &[u32]
+        ensures { result.now ≡ self.now.items }
+    {
+        &self.cells[..self.len]
+    }
+
+    pub fn at(&self, k: usize) -> Lit
+        requires { k < length self.now.items }
+        ensures { result.0 ≡ get_or self.now.items k 0 }
+    {
+        Lit(self.items()[k])
+    }
+
+    pub fn set(&mut self, k: usize, p: Lit)
+        requires { k < length self.old.items }
+        ensures { self.new ≡ put self.old k p.0 }
+    {
+        // Named first, so that the check of the index knows the slice's length.
+        let cells = &mut self.cells;
+        cells[k] = p.0;
+    }
+
+    pub fn push(&mut self, p: Lit)
+        requires { length self.old.items < length self.old.cells }
+        ensures { self.new ≡ pushed self.old p.0 }
+    {
+        self.cells[self.len] = p.0;
+        self.len += 1;
+    }
+
+    // Takes the last literal off.
+    pub fn pop(&mut self) -> Lit
+        requires { 0 < length self.old.items }
+        ensures items { self.old.items ≡ self.new.items ++ result.0 ∷ [] }
+        ensures cells { self.new.cells ≡ self.old.cells }
+    {
+        self.len -= 1;
+        Lit(self.cells[self.len])
+    }
+
+    // Keeps the first n literals.
+    pub fn truncate(&mut self, n: usize)
+        ensures { self.new ≡ record self.old { items = take n self.old.items } }
+    {
+        self.len = self.len.min(n);
+    }
+
+    pub fn clear(&mut self)
+        ensures { self.new ≡ record self.old { items = [] } }
+    {
+        self.len = 0;
+    }
+
+    // The literals go up.
+    pub fn sort(&mut self)
+        ensures moved { IsPermutation self.old.items self.new.items }
+        ensures sorted { IsNonDecreasing self.new.items }
+        ensures cells { length self.new.cells ≡ length self.old.cells }
+    {
+        self.cells[..self.len].sort_unstable();
+    }
 }
 
-pub fn set_stack(d: ScratchSize, s: &mut [u32], k: usize, p: Lit)
-    requires room { Room d (length s.old) }
-    requires k_lt_vars { k < d.vars }
-    ensures { Holds d s.new (stacked (view d s.old) k p.0) }
-{
-    let n = d.vars;
-    s[3 * n + k] = p.0;
+#[derive(Drop)]
+pub struct Scratch<'a> {
+    pub marks: Marks<'a>,
+    // A clause under way.
+    pub buffer: Lits<'a>,
+    // Literals to trace.
+    pub stack: Lits<'a>,
+    // Literals whose marks are to be taken back.
+    pub notes: Lits<'a>,
 }
 
-// Literal k of those whose marks are to be taken back.
-pub fn noted_at(d: ScratchSize, s: &[u32], k: usize) -> Lit
-    requires room { Room d (length s.now) }
-    requires k_lt_vars { k < d.vars }
-    ensures { result.0 ≡ get_or (view d s.now).notes k 0 }
-{
-    let n = d.vars;
-    Lit(s[4 * n + k])
-}
-
-pub fn set_noted(d: ScratchSize, s: &mut [u32], k: usize, p: Lit)
-    requires room { Room d (length s.old) }
-    requires k_lt_vars { k < d.vars }
-    ensures { Holds d s.new (noted (view d s.old) k p.0) }
-{
-    let n = d.vars;
-    s[4 * n + k] = p.0;
-}
-
-// No variable is marked, whatever the slice held.
-pub fn start(d: ScratchSize, s: &mut [u32])
-    requires { Room d (length s.old) }
-    ensures { Holds d s.new (unmarked d.vars (view d s.old)) }
-{
-    let n = d.vars;
-    for i in 0..n {
-        s[i] = 0;
+impl<'a> Scratch<'a> {
+    // No variable is marked and the lists are empty, whatever the slice held.
+    pub fn new(cells: &'a mut [u32], vars: usize) -> Scratch<'a>
+        requires { 5 * vars ≤ length cells.old }
+        ensures marks { result.marks ≡ replicate vars 0 }
+        ensures buffer { result.buffer ≡ row 0 (take (2 * vars) (drop vars cells.old)) }
+        ensures stack { result.stack ≡ row 0 (take vars (drop (3 * vars) cells.old)) }
+        ensures notes { result.notes ≡ row 0 (take vars (drop (4 * vars) cells.old)) }
+    {
+        let (marks, rest) = cells.split_at_mut(vars);
+        let (buffer, rest) = rest.split_at_mut(2 * vars);
+        let (stack, rest) = rest.split_at_mut(vars);
+        let (notes, _) = rest.split_at_mut(vars);
+        Scratch {
+            marks: Marks::new(marks),
+            buffer: Lits::new(buffer),
+            stack: Lits::new(stack),
+            notes: Lits::new(notes),
+        }
     }
 }

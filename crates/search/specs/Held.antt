@@ -1,99 +1,102 @@
--- What the slices hold of the definition's solver, and how a turn, a search and a solve leave them.
-use Rattle.std.specs.Prelude.{ℕ, ◌+◌, ◌*◌, ◌≤◌, ◌<◌, ◌≡◌, Bool, false, List, length, ltb, Float}
-use Rattle.model.specs.State as State
-use Rattle.model.specs.Trail.{cancel_until}
-use Rattle.model.specs.Decide.{Decision, decided, complete, failed, decide}
+-- What a solver holds of the definition's, and how a turn, a search and a solve leave it.
+use Rattle.std.specs.Prelude.{ℕ, ◌*◌, ◌≤◌, ◌<◌, ◌≡◌, List, length, Option, None as none, Some as some}
+use Rattle.model.specs.State as ms
+use Rattle.model.specs.State.{decision_level}
+use Rattle.model.specs.Decide.{Decision, decided, complete, failed}
 use Rattle.model.specs.Search as model
 use Rattle.lawbase.specs.Basics.{Every}
-use Rattle.ends.specs.Credit.{Ongoing, credit}
-use Rattle.activity.specs.Activities.{activity}
-use Rattle.state.specs.View.{whole}
-use Rattle.state.specs.Still.{Still, state_at, config_of}
+use Rattle.learning.specs.FirstUip.{Conflict}
+use Rattle.ends.specs.Credit.{Ongoing}
 use Rattle.state.specs.declared.Config.{Config}
-use Rattle.state.specs.declared.Header.{Header}
-use Rattle.decide.specs.Deciding.{Ended}
+use Rattle.state.specs.declared.State.{State}
+use Rattle.state.specs.Still.{Still, state_at, config_of}
+use Rattle.decide.specs.Deciding.{Ended as Refuted}
 use Rattle.search.specs.declared.Solver.{Solver}
-use Rattle.search.specs.declared.Status as Status
 use Rattle.search.specs.declared.Status.{Status}
+use Rattle.search.specs.declared.Conflicts.{Conflicts}
 use Rattle.search.specs.declared.Searched.{Searched}
-use Rattle.search.specs.declared.Outcome as Outcome
-use Rattle.search.specs.declared.Outcome.{Outcome}
 
 -- ---- the definition's values
 
-abbrev pub solver_at : Config → Solver → List ℕ → List Float → State.Solver
-solver_at g x w acts = record { state = state_at g x.head w; activity = activity acts x.inc }
+abbrev pub solver_at : Solver → ms.Solver
+solver_at x = record { state = state_at x.state; activity = x.activity }
 
 -- the final clause of FALSE is the state's
-abbrev pub status_of : Config → Header → List ℕ → Status → model.Status
-status_of g h w Status.True = model.TRUE
-status_of g h w Status.False = model.FALSE (whole g.sizes h w).final.items
-status_of g h w Status.Undef = model.UNDEF
-status_of g h w Status.NoStorage = model.NO_STORAGE
+abbrev pub status_of : Status → State → model.Status
+status_of Status.True s = model.TRUE
+status_of Status.False s = model.FALSE s.finals.items
+status_of Status.Undef s = model.UNDEF
+status_of Status.NoStorage s = model.NO_STORAGE
 
-abbrev pub searched_of : Config → Searched → List ℕ → List Float → model.Searched
-searched_of g r w acts =
-    record { solver = solver_at g r.solver w acts; conflicts = r.conflicts; status = status_of g r.solver.head w r.status }
+abbrev pub searched_of : Solver → Searched → model.Searched
+searched_of x r = record { solver = solver_at x; conflicts = r.conflicts; status = status_of r.status x.state }
 
-abbrev pub turn_of : Config → Outcome → List ℕ → List Float → model.Turn
-turn_of g (Outcome.GoesOn a b x) w acts = model.goes_on a b (solver_at g x w acts)
-turn_of g (Outcome.Ends r) w acts = model.ends (searched_of g r w acts)
+abbrev pub turn_of : Solver → Conflicts → Option Status → model.Turn
+turn_of x n none = model.goes_on n.solve n.search (solver_at x)
+turn_of x n (some t) = model.ends (record { solver = solver_at x; conflicts = n.solve; status = status_of t x.state })
 
--- ---- the parts of a turn without a conflict
+-- ---- the next decision
 
-abbrev pub stopped_at : Config → Solver → List ℕ → List Float → ℕ → model.Searched
-stopped_at g x w acts a =
-    record { solver = State.with_state (solver_at g x w acts) (cancel_until g.phase (state_at g x.head w) 0); conflicts = a; status = model.UNDEF }
-
-abbrev pub on_decision : ℕ → ℕ → State.Solver → Decision → model.Turn
-on_decision a b x (decided s) = model.goes_on a b (State.with_state x s)
-on_decision a b x (complete s) = model.ends (record { solver = State.with_state x s; conflicts = a; status = model.TRUE })
-on_decision a b x (failed s final') = model.ends (record { solver = State.with_state x s; conflicts = a; status = model.FALSE final' })
-
--- the next decision
-abbrev pub branch_turn : List ℕ → ℕ → ℕ → State.Solver → model.Turn
-branch_turn ps a b x = on_decision a b x (decide x.activity.activities ps x.state)
+abbrev pub on_decision : ℕ → ℕ → ms.Solver → Decision → model.Turn
+on_decision a b x (decided s) = model.goes_on a b (ms.with_state x s)
+on_decision a b x (complete s) = model.ends (record { solver = ms.with_state x s; conflicts = a; status = model.TRUE })
+on_decision a b x (failed s final') = model.ends (record { solver = ms.with_state x s; conflicts = a; status = model.FALSE final' })
 
 -- ---- before
 
+-- clause confl is false; above level 0, it can be analysed
+pub record Conflicting (x : Solver) (confl : ℕ) : Type 0 where
+  pub still : Still x.state
+  pub conflict : 0 < decision_level x.state.trail.vars → Conflict x.state.config.vars (state_at x.state).store x.state.trail.vars confl
+  pub sized : length x.activity.activities ≡ x.state.config.vars
+
 -- literals that a solve may assume
 pub record Assumable (g : Config) (ps : List ℕ) : Type 0 where
-  pub count : length ps ≤ 2 * g.sizes.vars
-  pub range : Every (λ p. p < 2 * g.sizes.vars) ps
+  pub count : length ps ≤ 2 * g.vars
+  pub range : Every (λ p. p < 2 * g.vars) ps
 
 -- a search under assumptions may take a turn from here
-pub record Running (g : Config) (ps : List ℕ) (x : Solver) (w : List ℕ) (acts : List Float) : Type 0 where
-  pub still : Still g x.head w
-  pub ongoing : Ongoing (config_of g) ps (state_at g x.head w)
-  pub counted : length acts ≡ g.sizes.vars
-  pub assumable : Assumable g ps
+pub record Running (ps : List ℕ) (x : Solver) : Type 0 where
+  pub still : Still x.state
+  pub ongoing : Ongoing (config_of x.state.config) ps (state_at x.state)
+  pub counted : length x.activity.activities ≡ x.state.config.vars
+  pub assumable : Assumable x.state.config ps
 
 -- ---- after
 
 -- a final clause is left only by FALSE
-abbrev pub Left : Config → Status → Header → List ℕ → Type 0
-Left g Status.True h w = Still g h w
-Left g Status.False h w = Ended g h w
-Left g Status.Undef h w = Still g h w
-Left g Status.NoStorage h w = Still g h w
+abbrev pub Left : Status → State → Type 0
+Left Status.True s = Still s
+Left Status.False s = Refuted s
+Left Status.Undef s = Still s
+Left Status.NoStorage s = Still s
 
-abbrev pub LeftBy : Config → Outcome → List ℕ → Type 0
-LeftBy g (Outcome.GoesOn a b x) w = Still g x.head w
-LeftBy g (Outcome.Ends r) w = Left g r.status r.solver.head w
+pub still_refuted : {s : State} → Still s → Refuted s
+still_refuted k = record { sized = k.sized; marks = k.idle.marks; pushed = k.idle.pushed; nodes = k.idle.nodes; formed = k.formed }
 
--- the slices hold the definition's turn m
-pub record Turned (g : Config) (m : model.Turn) (r : Outcome) (w : List ℕ) (acts : List Float) : Type 0 where
-  pub is : turn_of g r w acts ≡ m
-  pub left : LeftBy g r w
+pub left_refuted : {s : State} (t : Status) → Left t s → Refuted s
+left_refuted Status.True l = still_refuted l
+left_refuted Status.False l = l
+left_refuted Status.Undef l = still_refuted l
+left_refuted Status.NoStorage l = still_refuted l
 
--- the slices hold the definition's end m of a search
-pub record Ends (g : Config) (m : model.Searched) (r : Searched) (w : List ℕ) (acts : List Float) : Type 0 where
-  pub is : searched_of g r w acts ≡ m
-  pub left : Left g r.status r.solver.head w
+abbrev pub LeftBy : Option Status → State → Type 0
+LeftBy none s = Still s
+LeftBy (some t) s = Left t s
 
--- whether another search follows
-abbrev pub goes_again : Status → ℕ → ℕ → Bool
-goes_again Status.True a budget = false
-goes_again Status.False a budget = false
-goes_again Status.Undef a budget = ltb a budget
-goes_again Status.NoStorage a budget = false
+-- the configuration stays, and each variable keeps an activity
+pub record Kept (x x' : Solver) : Type 0 where
+  pub config : x'.state.config ≡ x.state.config
+  pub counted : length x'.activity.activities ≡ length x.activity.activities
+
+-- the solver x' is as the definition's turn m has it
+pub record Turned (m : model.Turn) (x x' : Solver) (n : Conflicts) (r : Option Status) : Type 0 where
+  pub is : turn_of x' n r ≡ m
+  pub left : LeftBy r x'.state
+  pub kept : Kept x x'
+
+-- the solver x' is as the definition's end m of a search has it
+pub record Ended (m : model.Searched) (x x' : Solver) (r : Searched) : Type 0 where
+  pub is : searched_of x' r ≡ m
+  pub left : Left r.status x'.state
+  pub kept : Kept x x'

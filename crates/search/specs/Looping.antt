@@ -1,14 +1,14 @@
--- The turns of a search, and the searches of a solve, over the slices.
-use Rattle.std.specs.Prelude.{ℕ, suc, ◌+◌, ◌*◌, ◌≤◌, ◌<◌, ◌≡◌, refl, true, false, List, length, Float}
+-- The turns of a search, and the searches of a solve.
+use Rattle.std.specs.Prelude.{ℕ, suc, ◌+◌, ◌*◌, ◌≤◌, ◌<◌, ◌≡◌, refl, ◌≢◌, ◌⊎◌, List, None as none, Some as some}
 use Rattle.std.proofs.Math.Nat.{one-le-mul}
-use Rattle.std.proofs.Common.{add-one, arith, sym, ap, subst, ◌∙◌, ltb-true, lt-ltb}
+use Rattle.std.proofs.Common.{add-one, arith, sym, ap, subst, ◌∙◌, inl, inr}
 use Rattle.model.specs.Lit.{no_reason}
 use Rattle.model.specs.Luby.{luby}
-use Rattle.model.specs.State as State
+use Rattle.model.specs.Script as Script
 use Rattle.model.specs.State.{decision_level}
 use Rattle.model.specs.Search as model
 use Rattle.luby.specs.Laws.{Term, luby_pos}
-use Rattle.ends.specs.Credit.{credit, left}
+use Rattle.ends.specs.Credit.{Ongoing, credit, left}
 use Rattle.ends.proofs.Credit.{credit_most}
 use Rattle.ends.specs.Turns.{Less}
 use Rattle.ends.proofs.MoreTurns.{search_most, searched_goes}
@@ -21,207 +21,224 @@ use Rattle.ends.specs.Rounds.{Round}
 use Rattle.ends.proofs.Rounds.{first_round, next_round, solve_most, solved_goes, solved_ends}
 use Rattle.ends.specs.Bounds.{Limited}
 use Rattle.ends.proofs.Bounds.{restarts_index, nof_most}
-use Rattle.state.specs.Still.{state_at, config_of}
 use Rattle.state.specs.declared.Config.{Config}
-use Rattle.state.specs.declared.Header.{Header}
+use Rattle.state.specs.declared.State.{State}
+use Rattle.state.specs.Still.{Still, state_at, config_of}
 use Rattle.search.specs.declared.Solver.{Solver}
-use Rattle.search.specs.declared.Status as Status
 use Rattle.search.specs.declared.Status.{Status}
+use Rattle.search.specs.declared.Conflicts.{Conflicts}
 use Rattle.search.specs.declared.Searched.{Searched}
-use Rattle.search.specs.declared.Outcome as Outcome
-use Rattle.search.specs.declared.Outcome.{Outcome}
-use Rattle.search.specs.Held.{solver_at, status_of, searched_of, turn_of, Running, Left, LeftBy, Turned, Ends, goes_again}
+use Rattle.search.specs.Held.{solver_at, status_of, searched_of, Assumable, Running, Left, Kept, Turned, Ended}
+use Rattle.search.specs.Turning.{kept_then}
+
+pub kept_none : {x : Solver} → Kept x x
+kept_none = record { config = refl; counted = refl }
 
 -- ---- the turns of a search
 
--- A search started from m with `before` conflicts of the solve, and comes to the end `whole`. Its next turn starts from the slices, with a
--- conflicts of the solve and b of its own.
-pub record Searching (g : Config) (ps : List ℕ) (budget nof before : ℕ) (m : State.Solver) (whole : model.Searched) (a b : ℕ) (x : Solver) (w : List ℕ)
-    (acts : List Float) : Type 0 where
-  pub running : Running g ps x w acts
-  pub between : Between (config_of g) ps budget before m a b (solver_at g x w acts)
+-- A search started from x₀ with `before` conflicts of the solve. Its next turn starts from x, with the conflicts n.
+pub record Searching (ps : List ℕ) (budget nof before : ℕ) (x₀ : Solver) (n : Conflicts) (x : Solver) : Type 0 where
+  pub running : Running ps x
+  pub kept : Kept x₀ x
+  pub between : Between (config_of x₀.state.config) ps budget before (solver_at x₀) n.solve n.search (solver_at x)
   -- what is left to do gives the whole
-  pub same : model.search (config_of g) ps budget nof (suc (left (config_of g) ps (state_at g x.head w))) a b (solver_at g x w acts) ≡ whole
+  pub same : model.search (config_of x₀.state.config) ps budget nof (suc (left (config_of x₀.state.config) ps (state_at x.state))) n.solve n.search (solver_at x)
+      ≡ model.search (config_of x₀.state.config) ps budget nof (model.most_turns (config_of x₀.state.config) ps) before 0 (solver_at x₀)
 
-pub small_of : {g : Config} {ps : List ℕ} {x : Solver} {w : List ℕ} {acts : List Float} → Running g ps x w acts → g.sizes.room ≤ no_reason
-small_of r = omega (arith, r.still.rep.room.room)
+small_of : {ps : List ℕ} {x : Solver} → Running ps x → x.state.config.room ≤ no_reason
+small_of r = omega (arith, r.still.sized.room)
 
-pub searching_starts : {g : Config} {ps : List ℕ} (budget nof before : ℕ) {x : Solver} {w : List ℕ} {acts : List Float} → Running g ps x w acts
-    → Searching g ps budget nof before (solver_at g x w acts)
-    (model.search (config_of g) ps budget nof (model.most_turns (config_of g) ps) before 0 (solver_at g x w acts)) before 0 x w acts
-searching_starts {g} {ps} budget nof before {x} {w} {acts} r =
+-- under the configuration that x had before
+ongoing_in : {ps : List ℕ} {x₀ x : Solver} → Kept x₀ x → Running ps x → Ongoing (config_of x₀.state.config) ps (state_at x.state)
+ongoing_in {ps} {x₀} {x} k r = subst (λ (g : Config). Ongoing (config_of g) ps (state_at x.state)) k.config r.ongoing
+
+running_on : {ps : List ℕ} {x₀ x : Solver} → Running ps x₀ → Kept x₀ x → Still x.state → Ongoing (config_of x₀.state.config) ps (state_at x.state) → Running ps x
+running_on {ps} {x₀} {x} r k s o =
     record {
-      running = r;
-      between = between_start (config_of g) ps budget before (solver_at g x w acts);
-      same =
-          sym (search_most (config_of g) (small_of r) ps r.assumable.range budget nof before 0 (solver_at g x w acts) r.ongoing);
+      still = s;
+      ongoing = subst (λ (g : Config). Ongoing (config_of g) ps (state_at x.state)) (sym k.config) o;
+      counted = k.counted ∙ r.counted ∙ sym (ap (λ (g : Config). g.vars) k.config);
+      assumable = subst (λ (g : Config). Assumable g ps) (sym k.config) r.assumable;
     }
 
-module _ {g : Config} {ps : List ℕ} {budget nof before : ℕ} {m : State.Solver} {whole : model.Searched} {a b : ℕ} {x : Solver} {w : List ℕ}
-    {acts : List Float} (s : Searching g ps budget nof before m whole a b x w acts) where
+pub searching_starts : {ps : List ℕ} (budget nof before : ℕ) {x : Solver} → Running ps x → Searching ps budget nof before x (record { solve = before; search = 0 }) x
+searching_starts {ps} budget nof before {x} r =
+    let cfg = config_of x.state.config in
+    record {
+      running = r;
+      kept = kept_none;
+      between = between_start cfg ps budget before (solver_at x);
+      same = sym (search_most cfg (small_of r) ps r.assumable.range budget nof before 0 (solver_at x) r.ongoing);
+    }
+
+module _ {ps : List ℕ} {budget nof before : ℕ} {x₀ : Solver} {n : Conflicts} {x : Solver} (r₀ : Running ps x₀) (s : Searching ps budget nof before x₀ n x) where
+  abbrev cfg : Script.Config
+  cfg = config_of x₀.state.config
+
   -- a conflict more is a word
-  pub searching_words : before + credit (config_of g) m.state ≤ model.most_conflicts (config_of g) → (a < 4294967295) × (b < 4294967295)
+  pub searching_words : before + credit (config_of x₀.state.config) (state_at x₀.state) ≤ model.most_conflicts (config_of x₀.state.config) → (n.solve < 4294967295) × (n.search < 4294967295)
   unfolding model.most_conflicts
   searching_words h =
-      let room = s.running.still.rep.room in (
-        omega (arith, h, s.between.counted, s.between.within.spent, room.vars, room.room),
-        omega (arith, h, s.between.counted, s.between.within.spent, room.vars, room.room),
+      let z = r₀.still.sized in (
+        omega (arith, h, s.between.counted, s.between.within.spent, z.vars, z.room),
+        omega (arith, h, s.between.counted, s.between.within.spent, z.vars, z.room),
       )
 
-  module _ {t : Outcome} {w' : List ℕ} {acts' : List Float}
-      (k : Turned g (model.turn (config_of g) ps budget nof a b (solver_at g x w acts)) t w' acts') where
-    module _ {a' b' : ℕ} {x' : Solver} (e : t ≡ Outcome.GoesOn a' b' x') where
-      turned_on : model.turn (config_of g) ps budget nof a b (solver_at g x w acts) ≡ model.goes_on a' b' (solver_at g x' w' acts')
-      turned_on = sym k.is ∙ ap (λ t. turn_of g t w' acts') e
+  goes_from : Ongoing (config_of x₀.state.config) ps (state_at x.state)
+  goes_from = ongoing_in s.kept s.running
 
-      turned_less : Less (config_of g) ps budget nof a b (solver_at g x w acts) a' b' (solver_at g x' w' acts')
-      turned_less =
-          turn_less (config_of g) (small_of s.running) ps s.running.assumable.range budget nof a b (solver_at g x w acts) s.running.ongoing a' b'
-          (solver_at g x' w' acts') turned_on
+  as_first : model.turn (config_of x.state.config) ps budget nof n.solve n.search (solver_at x) ≡ model.turn (config_of x₀.state.config) ps budget nof n.solve n.search (solver_at x)
+  as_first = ap (λ (g : Config). model.turn (config_of g) ps budget nof n.solve n.search (solver_at x)) s.kept.config
 
-      pub searching_less : left (config_of g) ps (state_at g x'.head w') < left (config_of g) ps (state_at g x.head w)
-      searching_less = turned_less.less
+  -- the search goes on
+  module _ {n' : Conflicts} {x' : Solver} (k : Turned (model.turn (config_of x.state.config) ps budget nof n.solve n.search (solver_at x)) x x' n' none) where
+    turned_on : model.turn (config_of x₀.state.config) ps budget nof n.solve n.search (solver_at x) ≡ model.goes_on n'.solve n'.search (solver_at x')
+    turned_on = sym (k.is ∙ as_first)
 
-      pub searching_goes : length acts' ≡ length acts → Searching g ps budget nof before m whole a' b' x' w' acts'
-      searching_goes n =
-          record {
-            running = record {
-              still = subst (λ t. LeftBy g t w') e k.left;
-              ongoing = turned_less.ongoing;
-              counted = n ∙ s.running.counted;
-              assumable = s.running.assumable;
-            };
-            between = between_step s.between turned_less;
-            same =
-                sym
-                (searched_goes (config_of g) (small_of s.running) ps s.running.assumable.range budget nof a b (solver_at g x w acts)
-                s.running.ongoing a' b' (solver_at g x' w' acts') turned_on)
-                ∙ s.same;
-          }
+    turned_less : Less (config_of x₀.state.config) ps budget nof n.solve n.search (solver_at x) n'.solve n'.search (solver_at x')
+    turned_less =
+        turn_less cfg (small_of r₀) ps r₀.assumable.range budget nof n.solve n.search (solver_at x) goes_from n'.solve n'.search (solver_at x') turned_on
 
-    pub searching_ends : {r : Searched} → t ≡ Outcome.Ends r → Ends g whole r w' acts'
-    searching_ends {r} e =
+    pub searching_less : left (config_of x₀.state.config) ps (state_at x'.state) < left (config_of x₀.state.config) ps (state_at x.state)
+    searching_less = turned_less.less
+
+    pub searching_goes : Searching ps budget nof before x₀ n' x'
+    searching_goes =
+        let q = kept_then s.kept k.kept in
         record {
-          is =
-              sym
-              (searched_ends (config_of g) (small_of s.running) ps s.running.assumable.range budget nof a b (solver_at g x w acts)
-              (searched_of g r w' acts') (sym k.is ∙ ap (λ t. turn_of g t w' acts') e))
+          running = running_on r₀ q k.left turned_less.ongoing;
+          kept = q;
+          between = between_step s.between turned_less;
+          same =
+              sym (searched_goes cfg (small_of r₀) ps r₀.assumable.range budget nof n.solve n.search (solver_at x) goes_from n'.solve n'.search (solver_at x') turned_on)
               ∙ s.same;
-          left = subst (λ t. LeftBy g t w') e k.left;
         }
+
+  -- the search ends
+  pub searching_ends : {n' : Conflicts} {x' : Solver} {t : Status}
+      → Turned (model.turn (config_of x.state.config) ps budget nof n.solve n.search (solver_at x)) x x' n' (some t)
+      → Ended (model.search (config_of x₀.state.config) ps budget nof (model.most_turns (config_of x₀.state.config) ps) before 0 (solver_at x₀)) x₀ x' (record { status = t; conflicts = n'.solve })
+  searching_ends {n'} {x'} {t} k =
+      record {
+        is =
+            sym
+            (searched_ends cfg (small_of r₀) ps r₀.assumable.range budget nof n.solve n.search (solver_at x)
+            (searched_of x' (record { status = t; conflicts = n'.solve })) (sym (k.is ∙ as_first)))
+            ∙ s.same;
+        left = k.left;
+        kept = kept_then s.kept k.kept;
+      }
 
 -- ---- whether another search follows
 
--- the search was cut short by a restart, not by the budget
-pub record Cut (s : Status) (a budget : ℕ) : Type 0 where
-  pub undef : s ≡ Status.Undef
-  pub affords : a < budget
-
-pub cut_of : (s : Status) (a budget : ℕ) → goes_again s a budget ≡ true → Cut s a budget
-cut_of Status.True a budget e = let z : ◌≡◌ {A = ℕ} 0 1 = cc in absurd (omega arith)
-cut_of Status.False a budget e = let z : ◌≡◌ {A = ℕ} 0 1 = cc in absurd (omega arith)
-cut_of Status.Undef a budget e = record { undef = refl; affords = ltb-true a budget e }
-cut_of Status.NoStorage a budget e = let z : ◌≡◌ {A = ℕ} 0 1 = cc in absurd (omega arith)
-
-not_cut : (g : Config) (h : Header) (w : List ℕ) (s : Status) (a budget : ℕ) → goes_again s a budget ≡ false → status_of g h w s ≡ model.UNDEF → a < budget → ⊥
-not_cut g h w Status.True a budget e u l = let z : ◌≡◌ {A = ℕ} 0 1 = cc in omega arith
-not_cut g h w Status.False a budget e u l = let z : ◌≡◌ {A = ℕ} 0 1 = cc in omega arith
-not_cut g h w Status.Undef a budget e u l = let y = lt-ltb a budget l in let z : ◌≡◌ {A = ℕ} 0 1 = cc in omega arith
-not_cut g h w Status.NoStorage a budget e u l = let z : ◌≡◌ {A = ℕ} 0 1 = cc in omega arith
+undef_only : (t : Status) (y : State) → status_of t y ≡ model.UNDEF → t ≡ Status.Undef
+undef_only Status.True y e = absurd (let z : ◌≡◌ {A = ℕ} 0 1 = cc in omega arith)
+undef_only Status.False y e = absurd (let z : ◌≡◌ {A = ℕ} 0 1 = cc in omega arith)
+undef_only Status.Undef y e = refl
+undef_only Status.NoStorage y e = absurd (let z : ◌≡◌ {A = ℕ} 0 1 = cc in omega arith)
 
 -- ---- the searches of a solve
 
--- A solve started from m, and comes to the end `whole`. Its k-th search starts from the slices, with a conflicts of the solve.
-pub record Solving (g : Config) (ps : List ℕ) (budget : ℕ) (m : State.Solver) (whole : model.Searched) (k a : ℕ) (x : Solver) (w : List ℕ) (acts : List Float)
-    : Type 0 where
-  pub running : Running g ps x w acts
-  pub round : Round (config_of g) ps budget m k a (solver_at g x w acts)
+-- A solve started from x₀. Its k-th search starts from x, with a conflicts of the solve.
+pub record Solving (ps : List ℕ) (budget : ℕ) (x₀ : Solver) (k a : ℕ) (x : Solver) : Type 0 where
+  pub running : Running ps x
+  pub kept : Kept x₀ x
+  pub round : Round (config_of x₀.state.config) ps budget (solver_at x₀) k a (solver_at x)
   -- what is left to do gives the whole
-  pub same : model.solve_internal (config_of g) ps budget (suc (credit (config_of g) (state_at g x.head w))) k a (solver_at g x w acts) ≡ whole
+  pub same : model.solve_internal (config_of x₀.state.config) ps budget (suc (credit (config_of x₀.state.config) (state_at x.state))) k a (solver_at x)
+      ≡ model.solve_internal (config_of x₀.state.config) ps budget (suc (model.most_conflicts (config_of x₀.state.config))) 0 0 (solver_at x₀)
 
-pub solving_starts : {g : Config} {ps : List ℕ} (budget : ℕ) {x : Solver} {w : List ℕ} {acts : List Float} → Limited (config_of g) → Running g ps x w acts
-    → decision_level (state_at g x.head w).vars ≡ 0
-    → Solving g ps budget (solver_at g x w acts)
-    (model.solve_internal (config_of g) ps budget (suc (model.most_conflicts (config_of g))) 0 0 (solver_at g x w acts)) 0 0 x w acts
-solving_starts {g} {ps} budget {x} {w} {acts} l r z =
+pub solving_starts : {ps : List ℕ} (budget : ℕ) {x : Solver} → Limited (config_of x.state.config) → Running ps x → decision_level x.state.trail.vars ≡ 0
+    → Solving ps budget x 0 0 x
+solving_starts {ps} budget {x} l r z =
+    let cfg = config_of x.state.config in
     record {
       running = r;
-      round = first_round budget (solver_at g x w acts) r.ongoing z;
-      same =
-          sym (solve_most (config_of g) (small_of r) l.least_unit ps r.assumable.range budget 0 0 (solver_at g x w acts) r.ongoing);
+      kept = kept_none;
+      round = first_round budget (solver_at x) r.ongoing z;
+      same = sym (solve_most cfg (small_of r) l.least_unit ps r.assumable.range budget 0 0 (solver_at x) r.ongoing);
     }
 
-module _ {g : Config} (l : Limited (config_of g)) {ps : List ℕ} {budget : ℕ} {m : State.Solver} {whole : model.Searched} {k a : ℕ} {x : Solver} {w : List ℕ}
-    {acts : List Float} (s : Solving g ps budget m whole k a x w acts) where
+module _ {ps : List ℕ} {budget : ℕ} {x₀ : Solver} {k a : ℕ} {x : Solver} (r₀ : Running ps x₀) (l : Limited (config_of x₀.state.config))
+    (s : Solving ps budget x₀ k a x) where
+  abbrev setup : Script.Config
+  setup = config_of x₀.state.config
+
   pub solving_index : k < 131072
   solving_index = restarts_index l s.round
 
   -- the length of a search is a word
-  pub solving_word : {n : ℕ} → Term k n → n * g.unit < 4294967296
-  solving_word {n} t = let e = ap (λ n. n * g.unit) t.value in omega (arith, nof_most l s.round, e)
+  pub solving_word : {n : ℕ} → Term k n → n * x.state.config.unit < 4294967296
+  solving_word {n} t =
+      let e = ap (λ n. n * x₀.state.config.unit) t.value in
+      let u = ap (λ (g : Config). n * g.unit) s.kept.config in
+      omega (arith, nof_most l s.round, e, u)
 
-  pub solving_spent : a + credit (config_of g) (state_at g x.head w) ≤ model.most_conflicts (config_of g)
-  solving_spent = omega (arith, s.round.spent, credit_most (config_of g) m.state)
+  pub solving_spent : a + credit (config_of x.state.config) (state_at x.state) ≤ model.most_conflicts (config_of x.state.config)
+  solving_spent = rw s.kept.config (omega (arith, s.round.spent, credit_most setup (state_at x₀.state)))
 
-  module _ {n : ℕ} (t : Term k n) {r : Searched} {w' : List ℕ} {acts' : List Float}
-      (found : Ends g (model.search (config_of g) ps budget (n * g.unit) (model.most_turns (config_of g) ps) a 0 (solver_at g x w acts)) r w' acts') where
-    is_found : searched_of g r w' acts'
-        ≡ model.search (config_of g) ps budget (luby k * g.unit) (model.most_turns (config_of g) ps) a 0 (solver_at g x w acts)
+  solves_from : Ongoing (config_of x₀.state.config) ps (state_at x.state)
+  solves_from = ongoing_in s.kept s.running
+
+  module _ {n : ℕ} (t : Term k n) {x' : Solver} {r : Searched}
+      (found : Ended (model.search (config_of x.state.config) ps budget (n * x.state.config.unit) (model.most_turns (config_of x.state.config) ps) a 0 (solver_at x)) x x' r) where
+    is_found : searched_of x' r ≡ model.search (config_of x₀.state.config) ps budget (luby k * x₀.state.config.unit) (model.most_turns (config_of x₀.state.config) ps) a 0 (solver_at x)
     is_found =
         found.is
-        ∙ ap (λ n. model.search (config_of g) ps budget (n * g.unit) (model.most_turns (config_of g) ps) a 0 (solver_at g x w acts)) t.value
+        ∙ ap (λ (g : Config). model.search (config_of g) ps budget (n * g.unit) (model.most_turns (config_of g) ps) a 0 (solver_at x)) s.kept.config
+        ∙ ap (λ (n : ℕ). model.search setup ps budget (n * x₀.state.config.unit) (model.most_turns setup ps) a 0 (solver_at x)) t.value
 
-    last : Last (config_of g) ps budget (luby k * g.unit) a (solver_at g x w acts) (searched_of g r w' acts')
+    last : Last (config_of x₀.state.config) ps budget (luby k * x₀.state.config.unit) a (solver_at x) (searched_of x' r)
     last =
-        subst (Last (config_of g) ps budget (luby k * g.unit) a (solver_at g x w acts)) (sym is_found)
-        (search_last_most (config_of g) (small_of s.running) ps s.running.assumable.range budget (luby k * g.unit) a (solver_at g x w acts)
-        s.running.ongoing)
+        subst (Last setup ps budget (luby k * x₀.state.config.unit) a (solver_at x)) (sym is_found)
+        (search_last_most setup (small_of r₀) ps r₀.assumable.range budget (luby k * x₀.state.config.unit) a (solver_at x) solves_from)
 
-    nof_one : 1 ≤ luby k * g.unit
+    nof_one : 1 ≤ luby k * x₀.state.config.unit
     nof_one = one-le-mul (luby_pos k) l.least_unit
 
-    module _ (c : Cut r.status r.conflicts budget) where
-      again : Again budget (searched_of g r w' acts')
-      again = record { status = ap (status_of g r.solver.head w') c.undef; affords = c.affords }
+    -- the search was cut short by a restart, not by the budget
+    module _ (u : r.status ≡ Status.Undef) (c : r.conflicts < budget) where
+      again : Again budget (searched_of x' r)
+      again = record { status = ap (λ (t : Status). status_of t x'.state) u; affords = c }
 
-      next : Restarted (config_of g) ps budget a (solver_at g x w acts) r.conflicts (solver_at g r.solver w' acts')
+      next : Restarted (config_of x₀.state.config) ps budget a (solver_at x) r.conflicts (solver_at x')
       next = restarted nof_one last again
 
-      pub solving_less : credit (config_of g) (state_at g r.solver.head w') < credit (config_of g) (state_at g x.head w)
+      pub solving_less : credit (config_of x₀.state.config) (state_at x'.state) < credit (config_of x₀.state.config) (state_at x.state)
       solving_less = next.less
 
-      pub solving_goes : length acts' ≡ length acts → Solving g ps budget m whole (k + 1) r.conflicts r.solver w' acts'
-      solving_goes e =
-          subst (λ n. Solving g ps budget m whole n r.conflicts r.solver w' acts') (sym (add-one k))
+      pub solving_goes : Solving ps budget x₀ (k + 1) r.conflicts x'
+      solving_goes =
+          let q = kept_then s.kept found.kept in
+          subst (λ n. Solving ps budget x₀ n r.conflicts x') (sym (add-one k))
           (record {
-            running = record {
-              still = subst (λ s. Left g s r.solver.head w') c.undef found.left;
-              ongoing = next.ongoing;
-              counted = e ∙ s.running.counted;
-              assumable = s.running.assumable;
-            };
+            running = running_on r₀ q (subst (λ (t : Status). Left t x'.state) u found.left) next.ongoing;
+            kept = q;
             round = next_round s.round nof_one last again;
             same =
                 sym
                 (subst
-                (λ f. model.solve_internal (config_of g) ps budget (suc (credit (config_of g) (state_at g x.head w))) k a (solver_at g x w acts)
-                ≡ model.solve_internal (config_of g) ps budget (suc (credit (config_of g) f.solver.state)) (suc k) f.conflicts f.solver)
+                (λ f. model.solve_internal setup ps budget (suc (credit setup (state_at x.state))) k a (solver_at x)
+                ≡ model.solve_internal setup ps budget (suc (credit setup f.solver.state)) (suc k) f.conflicts f.solver)
                 (sym is_found)
-                (solved_goes (config_of g) (small_of s.running) l.least_unit ps s.running.assumable.range budget k a (solver_at g x w acts)
-                s.running.ongoing (subst (Again budget) is_found again)))
+                (solved_goes setup (small_of r₀) l.least_unit ps r₀.assumable.range budget k a (solver_at x) solves_from (subst (Again budget) is_found again)))
                 ∙ s.same;
           })
 
-    pub solving_ends : goes_again r.status r.conflicts budget ≡ false → Ends g whole r w' acts'
+    pub solving_ends : (r.status ≢ Status.Undef) ⊎ (budget ≤ r.conflicts)
+        → Ended (model.solve_internal (config_of x₀.state.config) ps budget (suc (model.most_conflicts (config_of x₀.state.config))) 0 0 (solver_at x₀)) x₀ x' r
     solving_ends e =
         record {
           is =
               is_found
               ∙ sym
-              (solved_ends (config_of g) (small_of s.running) l.least_unit ps s.running.assumable.range budget k a (solver_at g x w acts)
-              (λ n.
-              let n' : Again budget (searched_of g r w' acts') = subst (Again budget) (sym is_found) n in
-              not_cut g r.solver.head w' r.status r.conflicts budget e n'.status n'.affords))
+              (solved_ends setup (small_of r₀) l.least_unit ps r₀.assumable.range budget k a (solver_at x)
+              (λ n. never e (subst (Again budget) (sym is_found) n)))
               ∙ s.same;
           left = found.left;
+          kept = kept_then s.kept found.kept;
         }
+      where
+        never : (r.status ≢ Status.Undef) ⊎ (budget ≤ r.conflicts) → Again budget (searched_of x' r) → ⊥
+        never (inl d) n = d (undef_only r.status x'.state n.status)
+        never (inr b) n = omega (arith, n.affords)

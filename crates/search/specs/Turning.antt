@@ -1,15 +1,14 @@
--- What the steps of a turn leave in the slices.
-use Rattle.std.specs.Prelude.{ℕ, suc, ◌+◌, ◌≤◌, ◌<◌, ◌≡◌, refl, ◌⊎◌, Bool, true, false, List, [], get_or, Float}
-use Rattle.std.proofs.Common.{arith, add-one, sym, ap, ◌∙◌, subst, inl, inr}
-use Rattle.std.specs.Prelude.{Option, None as none, Some as some}
-use Rattle.model.specs.Lit.{no_reason}
+-- What the steps of a turn leave.
+use Rattle.std.specs.Prelude.{ℕ, suc, ◌+◌, ◌≤◌, ◌<◌, ◌≡◌, refl, ◌⊎◌, List, [], get_or, length, Option, None as none, Some as some, true, false, Result, Ok, Err, is_err}
+use Rattle.std.proofs.Common.{arith, add-one, sym, ap, ◌∙◌, subst, inl, inr, true≢false}
 use Rattle.model.specs.Script as Script
-use Rattle.model.specs.State as State
-use Rattle.model.specs.State.{decision_level, clause_at, with_state}
+use Rattle.model.specs.State as ms
+use Rattle.model.specs.State.{Activity, decision_level, clause_at, with_state}
 use Rattle.model.specs.Trail.{cancel_until}
 use Rattle.model.specs.Activity.{var_decay_activity}
 use Rattle.model.specs.Propagate as prop
 use Rattle.model.specs.Propagate.{propagate}
+use Rattle.model.specs.Analyze as analysis
 use Rattle.model.specs.Decide as dec
 use Rattle.model.specs.Search as model
 use Rattle.model.specs.Search.{add_learnt_and_backtrack, on_conflict, on_no_conflict, turn}
@@ -22,180 +21,194 @@ use Rattle.watching.specs.Result.{Rested, Clashed}
 use Rattle.watching.proofs.Result.{propagated}
 use Rattle.ends.specs.Credit.{Ongoing}
 use Rattle.ends.proofs.Cases.{conflict_cases, no_conflict_cases}
-use Rattle.activity.specs.Activities.{activity}
-use Rattle.state.specs.View.{whole}
-use Rattle.state.specs.Still.{Still, Has, state_at, config_of}
+use Rattle.activity.specs.Activities.{decay_sized}
 use Rattle.state.specs.declared.Config.{Config}
-use Rattle.state.specs.declared.Header.{Header}
-use Rattle.learn.specs.declared.Learnt.{Learnt}
-use Rattle.learn.specs.declared.Backed.{Backed}
+use Rattle.state.specs.declared.State.{State}
+use Rattle.state.specs.Still.{Still, Has, Beside, state_at, config_of}
+use Rattle.learn.specs.Learned as learning
 use Rattle.learn.specs.Learned.{Learned, learnt_of}
-use Rattle.learn.specs.Adding.{Backs, learned_step}
+use Rattle.learn.specs.Adding.{Backable, Back, Full, Backs, learned_backable, learned_step}
 use Rattle.decide.specs.declared.Decision.{Decision}
 use Rattle.decide.specs.declared.Decision.TheVariants.{Decided, Complete, Failed}
-use Rattle.decide.specs.Deciding.{Ended, Decides}
-use Rattle.propagate.specs.declared.Propagated.{Propagated}
-use Rattle.propagate.specs.View.{conflict_if, Gives}
+use Rattle.decide.specs.Deciding.{Decides}
+use Rattle.propagate.specs.View.{Gives}
 use Rattle.search.specs.declared.Solver.{Solver}
-use Rattle.search.specs.declared.Status as Status
 use Rattle.search.specs.declared.Status.{Status}
-use Rattle.search.specs.declared.Searched.{Searched}
-use Rattle.search.specs.declared.Outcome as Outcome
-use Rattle.search.specs.declared.Outcome.{Outcome}
-use Rattle.search.specs.Held.{solver_at, turn_of, stopped_at, on_decision, branch_turn, Running, Turned, Ends}
+use Rattle.search.specs.declared.Conflicts.{Conflicts}
+use Rattle.search.specs.Held.{solver_at, turn_of, still_refuted, on_decision, Conflicting, Running, Kept, Turned}
 
-still_ended : {g : Config} {h : Header} {w : List ℕ} → Still g h w → Ended g h w
-still_ended s = record { rep = s.rep; marks = s.idle.marks; pushed = s.idle.pushed; nodes = s.idle.nodes; formed = s.formed }
+pub kept_then : {x x₁ x₂ : Solver} → Kept x x₁ → Kept x₁ x₂ → Kept x x₂
+kept_then k l = record { config = l.config ∙ k.config; counted = l.counted ∙ k.counted }
 
 -- ---- after a conflict
 
--- at level 0
-pub refutes : (g : Config) (x : Solver) (w : List ℕ) (acts : List Float) (a b confl : ℕ) → Still g x.head w → decision_level (state_at g x.head w).vars ≡ 0
-    → Turned g (on_conflict (config_of g) a b (solver_at g x w acts) confl) (Outcome.Ends (record { solver = x; conflicts = a + 1; status = Status.False })) w acts
-refutes g x w acts a b confl s z =
-    record {
-      is =
-          conflict_cases (λ t. turn_of g (Outcome.Ends (record { solver = x; conflicts = a + 1; status = Status.False })) w acts ≡ t) (config_of g) a b
-          (solver_at g x w acts) confl
-          (λ _.
-          ap (λ (n : ℕ). model.ends (record { solver = solver_at g x w acts; conflicts = n; status = model.FALSE (whole g.sizes x.head w).final.items })) (add-one a)
-          ∙ ap (λ (f : List ℕ). model.ends (record { solver = solver_at g x w acts; conflicts = suc a; status = model.FALSE f })) s.idle.final)
-          (λ d e. absurd (omega (arith, z, d))) (λ d y e. absurd (omega (arith, z, d)));
-      left = still_ended s;
-    }
+-- how many conflicts there are then
+abbrev pub one_more : Conflicts → Conflicts
+one_more n = record { solve = n.solve + 1; search = n.search }
 
--- above it
-module _ (g : Config) (x : Solver) (w : List ℕ) (acts : List Float) (a b confl : ℕ) (w₁ : List ℕ) (acts₁ : List Float) (l : Learnt)
-    (k : Learned g x.head w acts x.inc confl w₁ acts₁ l) (d : 0 < decision_level (state_at g x.head w).vars) where
-  abbrev added : Option State.State
-  added = add_learnt_and_backtrack (config_of g) (state_at g x.head w) (learnt_of g x.head w acts x.inc confl).clause (learnt_of g x.head w acts x.inc confl).level
+abbrev pub both_more : Conflicts → Conflicts
+both_more n = record { solve = n.solve + 1; search = n.search + 1 }
 
-  stays : (t : model.Turn)
-      → (added ≡ none
-      → t ≡ model.ends (record { solver = State.with_activity (solver_at g x w acts) (learnt_of g x.head w acts x.inc confl).activity; conflicts = suc a; status = model.NO_STORAGE }))
-      → ((s : State.State) → added ≡ some s
-      → t ≡ model.goes_on (suc a) (suc b) (record { state = s; activity = var_decay_activity (learnt_of g x.head w acts x.inc confl).activity }))
-      → t ≡ on_conflict (config_of g) a b (solver_at g x w acts) confl
-  stays t f h = conflict_cases (λ u. t ≡ u) (config_of g) a b (solver_at g x w acts) confl (λ z. absurd (omega (arith, z, d))) (λ _ e. f e) (λ _ s e. h s e)
+module _ (x : Solver) (n : Conflicts) (confl : ℕ) (c : Conflicting x confl) where
+  abbrev here : model.Turn
+  here = on_conflict (config_of x.state.config) n.solve n.search (solver_at x) confl
 
-  -- there is no storage
-  pub unstored : (w₂ : List ℕ) (k : Backed) → k ≡ Backed.NoStorage → Backs g x.head w₁ l.size l.level w₂ k
-      → Turned g (on_conflict (config_of g) a b (solver_at g x w acts) confl)
-      (Outcome.Ends (record { solver = record { head = x.head; inc = l.inc }; conflicts = a + 1; status = Status.NoStorage })) w₂ acts₁
-  unstored w₂ r q m =
-      let o : Backs g x.head w₁ l.size l.level w₂ Backed.NoStorage = subst (Backs g x.head w₁ l.size l.level w₂) q m in
-      let e : added ≡ none = sym (learned_step g x.head w acts x.inc confl w₁ acts₁ l k) ∙ o.outcome.0 in
+  -- at level 0
+  pub refutes : decision_level x.state.trail.vars ≡ 0
+      → Turned (on_conflict (config_of x.state.config) n.solve n.search (solver_at x) confl) x x (one_more n) (some Status.False)
+  refutes z =
       record {
         is =
-            stays (model.ends (record { solver = record { state = state_at g x.head w₂; activity = activity acts₁ l.inc }; conflicts = a + 1; status = model.NO_STORAGE }))
+            conflict_cases (λ t. turn_of x (one_more n) (some Status.False) ≡ t) (config_of x.state.config) n.solve n.search (solver_at x) confl
             (λ _.
-            ap (λ (n : ℕ). model.ends (record { solver = record { state = state_at g x.head w₂; activity = activity acts₁ l.inc }; conflicts = n; status = model.NO_STORAGE })) (add-one a)
-            ∙ ap (λ (s : State.State). model.ends (record { solver = record { state = s; activity = activity acts₁ l.inc }; conflicts = suc a; status = model.NO_STORAGE })) (o.outcome.1.state ∙ k.has.state)
-            ∙ ap (λ (v : State.Activity). model.ends (record { solver = record { state = state_at g x.head w; activity = v }; conflicts = suc a; status = model.NO_STORAGE })) k.activity)
-            (λ s f. let z : ◌≡◌ {A = ℕ} 0 1 = cc in absurd (omega arith));
-        left = o.outcome.1.still;
+            ap (λ (j : ℕ). model.ends (record { solver = solver_at x; conflicts = j; status = model.FALSE x.state.finals.items })) (add-one n.solve)
+            ∙ ap (λ (f : List ℕ). model.ends (record { solver = solver_at x; conflicts = suc n.solve; status = model.FALSE f })) c.still.idle.final)
+            (λ d e. absurd (omega (arith, z, d))) (λ d y e. absurd (omega (arith, z, d)));
+        left = still_refuted c.still;
+        kept = record { config = refl; counted = refl };
       }
 
-  -- the clause is learnt
-  pub learns : (w₂ : List ℕ) (r : Header) (inc : Float) (k : Backed) → k ≡ Backed.Back r → Backs g x.head w₁ l.size l.level w₂ k
-      → ((ys : List Float) → activity ys inc ≡ var_decay_activity (activity ys l.inc))
-      → Turned g (on_conflict (config_of g) a b (solver_at g x w acts) confl)
-      (Outcome.GoesOn (a + 1) (b + 1) (record { head = r; inc = inc })) w₂ acts₁
-  learns w₂ r inc j i m v =
-      let o : Backs g x.head w₁ l.size l.level w₂ (Backed.Back r) = subst (Backs g x.head w₁ l.size l.level w₂) i m in
-      let e : added ≡ some o.outcome.0 = sym (learned_step g x.head w acts x.inc confl w₁ acts₁ l k) ∙ o.outcome.1.0 in
-      record {
-        is =
-            stays (model.goes_on (a + 1) (b + 1) (record { state = state_at g r w₂; activity = activity acts₁ inc }))
-            (λ f. let z : ◌≡◌ {A = ℕ} 0 1 = cc in absurd (omega arith))
-            (λ s f.
-            let q : state_at g r w₂ ≡ s = o.outcome.1.1.state ∙ cc in
-            ap (λ (n : ℕ). model.goes_on n (b + 1) (record { state = state_at g r w₂; activity = activity acts₁ inc })) (add-one a)
-            ∙ ap (λ (n : ℕ). model.goes_on (suc a) n (record { state = state_at g r w₂; activity = activity acts₁ inc })) (add-one b)
-            ∙ ap (λ (y : State.State). model.goes_on (suc a) (suc b) (record { state = y; activity = activity acts₁ inc })) q
-            ∙ ap (λ (y : State.Activity). model.goes_on (suc a) (suc b) (record { state = s; activity = y })) (v acts₁ ∙ ap var_decay_activity k.activity));
-        left = o.outcome.1.1.still;
-      }
+  -- above it
+  module _ (d : 0 < decision_level x.state.trail.vars) where
+    -- what the analysis asks
+    pub analysable : learning.Conflicting x.state x.activity confl
+    analysable = record { still = c.still; conflict = c.conflict d; sized = c.sized }
+
+    module _ {s₁ : State} {a₁ : Activity} {level : ℕ} (l : Learned x.state s₁ x.activity a₁ confl level) where
+      -- what the way back asks
+      pub backable : Backable s₁ level
+      backable = learned_backable x.state s₁ x.activity a₁ confl level l (c.conflict d)
+
+      abbrev learnt : analysis.Learnt
+      learnt = learnt_of x.state x.activity confl
+
+      abbrev added : Option ms.State
+      added = add_learnt_and_backtrack (config_of x.state.config) (state_at x.state) learnt.clause learnt.level
+
+      stays : (t : model.Turn)
+          → (added ≡ none → t ≡ model.ends (record { solver = ms.with_activity (solver_at x) learnt.activity; conflicts = suc n.solve; status = model.NO_STORAGE }))
+          → ((s : ms.State) → added ≡ some s
+          → t ≡ model.goes_on (suc n.solve) (suc n.search) (record { state = s; activity = var_decay_activity learnt.activity }))
+          → t ≡ here
+      stays t f h =
+          conflict_cases (λ u. t ≡ u) (config_of x.state.config) n.solve n.search (solver_at x) confl (λ z. absurd (omega (arith, z, d))) (λ _ e. f e) (λ _ s e. h s e)
+
+      kept_config : s₁.config ≡ x.state.config
+      kept_config = ap (λ (y : State). y.config) l.beside
+
+      -- there is no storage
+      pub unstored : {s₂ : State} → Full s₁ s₂ level
+          → Turned (on_conflict (config_of x.state.config) n.solve n.search (solver_at x) confl) x (record { state = s₂; activity = a₁ }) (one_more n) (some Status.NoStorage)
+      unstored {s₂} o =
+          let e : added ≡ none = sym (learned_step x.state s₁ x.activity a₁ confl level l) ∙ o.is in
+          record {
+            is =
+                stays (turn_of (record { state = s₂; activity = a₁ }) (one_more n) (some Status.NoStorage))
+                (λ _.
+                ap (λ (j : ℕ). model.ends (record { solver = record { state = state_at s₂; activity = a₁ }; conflicts = j; status = model.NO_STORAGE })) (add-one n.solve)
+                ∙ ap (λ (y : ms.State). model.ends (record { solver = record { state = y; activity = a₁ }; conflicts = suc n.solve; status = model.NO_STORAGE })) (ap (λ (y : State). state_at y) o.same ∙ l.has.state)
+                ∙ ap (λ (v : Activity). model.ends (record { solver = record { state = state_at x.state; activity = v }; conflicts = suc n.solve; status = model.NO_STORAGE })) l.activity)
+                (λ s f. let z : ◌≡◌ {A = ℕ} 0 1 = cc in absurd (omega arith));
+            left = subst Still (sym o.same) l.has.still;
+            kept = record { config = ap (λ (y : State). y.config) o.same ∙ kept_config; counted = l.sized };
+          }
+
+      -- the clause is learnt
+      pub learns : {s₂ : State} {a₂ : Activity} → Back s₁ s₂ level → a₂ ≡ var_decay_activity a₁
+          → Turned (on_conflict (config_of x.state.config) n.solve n.search (solver_at x) confl) x (record { state = s₂; activity = a₂ }) (both_more n) none
+      learns {s₂} {a₂} o v =
+          let e : added ≡ some o.state = sym (learned_step x.state s₁ x.activity a₁ confl level l) ∙ o.is in
+          record {
+            is =
+                stays (turn_of (record { state = s₂; activity = a₂ }) (both_more n) none)
+                (λ f. let z : ◌≡◌ {A = ℕ} 0 1 = cc in absurd (omega arith))
+                (λ s f.
+                let q : state_at s₂ ≡ s = o.has.state ∙ cc in
+                ap (λ (j : ℕ). model.goes_on j (n.search + 1) (record { state = state_at s₂; activity = a₂ })) (add-one n.solve)
+                ∙ ap (λ (j : ℕ). model.goes_on (suc n.solve) j (record { state = state_at s₂; activity = a₂ })) (add-one n.search)
+                ∙ ap (λ (y : ms.State). model.goes_on (suc n.solve) (suc n.search) (record { state = y; activity = a₂ })) q
+                ∙ ap (λ (y : Activity). model.goes_on (suc n.solve) (suc n.search) (record { state = s; activity = y })) (v ∙ ap var_decay_activity l.activity));
+            left = o.has.still;
+            kept = record { config = o.beside.config ∙ kept_config; counted = ap (λ (y : Activity). length y.activities) v ∙ decay_sized a₁ ∙ l.sized };
+          }
+
+-- which way it went
+pub full_of : {T E : Type 0} {s s' : State} {level : ℕ} (r : Result T E) → is_err r ≡ true → Backs s s' level r → Full s s' level
+full_of (Ok v) e b = absurd (true≢false (sym e))
+full_of (Err v) e b = b
+
+pub back_of : {T E : Type 0} {s s' : State} {level : ℕ} (r : Result T E) → is_err r ≡ false → Backs s s' level r → Back s s' level
+back_of (Ok v) e b = b
+back_of (Err v) e b = absurd (true≢false e)
 
 -- ---- without one
 
--- back to level 0
-pub stops : (g : Config) (x : Solver) (w : List ℕ) (a : ℕ) (k : Header) (w₁ : List ℕ) → Has g k w₁ (cancel_until g.phase (state_at g x.head w) 0)
-    → (acts : List Float) → Ends g (stopped_at g x w acts a) (record { solver = record { head = k; inc = x.inc }; conflicts = a; status = Status.Undef }) w₁ acts
-stops g x w a k w₁ e acts =
-    record {
-      is = ap (λ (s : State.State). record { solver = record { state = s; activity = activity acts x.inc }; conflicts = a; status = model.UNDEF }) e.state;
-      left = e.still;
-    }
+-- what a decision comes to
+abbrev pub status_then : Decision → Option Status
+status_then Decided = none
+status_then Complete = some Status.True
+status_then Failed = some Status.False
 
--- the outcome of a decision
-abbrev pub outcome_of : ℕ → ℕ → Float → Decision → Outcome
-outcome_of a b inc (Decided k) = Outcome.GoesOn a b (record { head = k; inc = inc })
-outcome_of a b inc (Complete k) = Outcome.Ends (record { solver = record { head = k; inc = inc }; conflicts = a; status = Status.True })
-outcome_of a b inc (Failed k) = Outcome.Ends (record { solver = record { head = k; inc = inc }; conflicts = a; status = Status.False })
+module _ (x : Solver) (ps : List ℕ) (n : Conflicts) (budget nof : ℕ) where
+  -- a restart, or the budget is spent
+  pub halts : (nof ≤ n.search) ⊎ ((n.search < nof) × (budget ≤ n.solve)) → {s₁ : State} → Has s₁ (cancel_until x.state.config.phase (state_at x.state) 0) → Beside x.state s₁
+      → Turned (on_no_conflict (config_of x.state.config) ps budget nof n.solve n.search (solver_at x)) x (record { state = s₁; activity = x.activity }) n (some Status.Undef)
+  halts t {s₁} h b =
+      record {
+        is =
+            no_conflict_cases (λ u. turn_of (record { state = s₁; activity = x.activity }) n (some Status.Undef) ≡ u) (config_of x.state.config) ps budget nof n.solve n.search (solver_at x)
+            (λ _. ap (λ (s : ms.State). model.ends (record { solver = record { state = s; activity = x.activity }; conflicts = n.solve; status = model.UNDEF })) h.state)
+            (λ p q. absurd (never t p q));
+        left = h.still;
+        kept = record { config = b.config; counted = refl };
+      }
+    where
+      never : (nof ≤ n.search) ⊎ ((n.search < nof) × (budget ≤ n.solve)) → n.search < nof → n.solve < budget → ⊥
+      never (inl h) p q = omega arith
+      never (inr h) p q = omega (arith, h.1)
 
-module _ (g : Config) (x : Solver) (w : List ℕ) (acts : List Float) (ps : List ℕ) (a b : ℕ) where
-  decided : (r : Decision) (w₁ : List ℕ) → Decides g (dec.decide acts ps (state_at g x.head w)) r w₁
-      → Turned g (branch_turn ps a b (solver_at g x w acts)) (outcome_of a b x.inc r) w₁ acts
-  decided (Decided k) w₁ d = record { is = ap (on_decision a b (solver_at g x w acts)) d.is; left = d.settled }
-  decided (Complete k) w₁ d = record { is = ap (on_decision a b (solver_at g x w acts)) d.is; left = d.settled }
-  decided (Failed k) w₁ d = record { is = ap (on_decision a b (solver_at g x w acts)) d.is; left = d.settled }
+  -- as the definition has it
+  decides : (d : dec.Decision)
+      → on_decision n.solve n.search (solver_at x) d
+      ≡ (elim d [
+        | dec.decided s ↦ model.goes_on n.solve n.search (with_state (solver_at x) s)
+        | dec.complete s ↦ model.ends (record { solver = with_state (solver_at x) s; conflicts = n.solve; status = model.TRUE })
+        | dec.failed s f ↦ model.ends (record { solver = with_state (solver_at x) s; conflicts = n.solve; status = model.FALSE f })
+      ])
+  decides (dec.decided s) = refl
+  decides (dec.complete s) = refl
+  decides (dec.failed s f) = refl
 
-  pub branches : (r k : Decision) → k ≡ r → (w₁ : List ℕ) → Decides g (dec.decide acts ps (state_at g x.head w)) k w₁
-      → Turned g (branch_turn ps a b (solver_at g x w acts)) (outcome_of a b x.inc r) w₁ acts
-  branches r k e w₁ d = decided r w₁ (subst (λ (q : Decision). Decides g (dec.decide acts ps (state_at g x.head w)) q w₁) e d)
+  decided : (r : Decision) (s₁ : State) → Decides (dec.decide x.activity.activities ps (state_at x.state)) x.state s₁ r
+      → Turned (on_decision n.solve n.search (solver_at x) (dec.decide x.activity.activities ps (state_at x.state))) x (record { state = s₁; activity = x.activity }) n (status_then r)
+  decided Decided s₁ d =
+      record { is = ap (on_decision n.solve n.search (solver_at x)) d.is; left = d.settled.0; kept = record { config = d.same.config; counted = refl } }
+  decided Complete s₁ d =
+      record { is = ap (on_decision n.solve n.search (solver_at x)) d.is; left = d.settled.0; kept = record { config = d.same.config; counted = refl } }
+  decided Failed s₁ d =
+      record { is = ap (on_decision n.solve n.search (solver_at x)) d.is; left = d.settled.0; kept = record { config = d.same.config; counted = refl } }
 
-  module _ (budget nof : ℕ) where
-    -- a restart, or the budget is spent
-    pub halts : (nof ≤ b) ⊎ (budget ≤ a) → (r : Searched) (w₁ : List ℕ) → Ends g (stopped_at g x w acts a) r w₁ acts
-        → Turned g (on_no_conflict (config_of g) ps budget nof a b (solver_at g x w acts)) (Outcome.Ends r) w₁ acts
-    halts t r w₁ e =
-        record {
-          is =
-              no_conflict_cases (λ u. turn_of g (Outcome.Ends r) w₁ acts ≡ u) (config_of g) ps budget nof a b (solver_at g x w acts)
-              (λ _. ap model.ends e.is) (λ m n. absurd (never t m n));
-          left = e.left;
-        }
-      where
-        never : (nof ≤ b) ⊎ (budget ≤ a) → b < nof → a < budget → ⊥
-        never (inl h) m n = omega arith
-        never (inr h) m n = omega arith
-
-    -- as the definition has it
-    decides : (d : dec.Decision)
-        → on_decision a b (solver_at g x w acts) d
-        ≡ (elim d [
-          | dec.decided s ↦ model.goes_on a b (with_state (solver_at g x w acts) s)
-          | dec.complete s ↦ model.ends (record { solver = with_state (solver_at g x w acts) s; conflicts = a; status = model.TRUE })
-          | dec.failed s f ↦ model.ends (record { solver = with_state (solver_at g x w acts) s; conflicts = a; status = model.FALSE f })
-        ])
-    decides (dec.decided s) = refl
-    decides (dec.complete s) = refl
-    decides (dec.failed s f) = refl
-
-    -- neither
-    pub goes : b < nof → a < budget → (r : Outcome) (w₁ : List ℕ) → Turned g (branch_turn ps a b (solver_at g x w acts)) r w₁ acts
-        → Turned g (on_no_conflict (config_of g) ps budget nof a b (solver_at g x w acts)) r w₁ acts
-    goes m n r w₁ e =
-        record {
-          is =
-              no_conflict_cases (λ u. turn_of g r w₁ acts ≡ u) (config_of g) ps budget nof a b (solver_at g x w acts)
-              (λ t. absurd (never t)) (λ _ _. e.is ∙ decides (dec.decide acts ps (state_at g x.head w)));
-          left = e.left;
-        }
-      where
-        never : (nof ≤ b) ⊎ (budget ≤ a) → ⊥
-        never (inl h) = omega arith
-        never (inr h) = omega arith
+  -- neither
+  pub goes : n.search < nof → n.solve < budget → {r : Decision} {s₁ : State} → Decides (dec.decide x.activity.activities ps (state_at x.state)) x.state s₁ r
+      → Turned (on_no_conflict (config_of x.state.config) ps budget nof n.solve n.search (solver_at x)) x (record { state = s₁; activity = x.activity }) n (status_then r)
+  goes p q {r} {s₁} d =
+      let k = decided r s₁ d in
+      record {
+        is =
+            no_conflict_cases (λ u. turn_of (record { state = s₁; activity = x.activity }) n (status_then r) ≡ u) (config_of x.state.config) ps budget nof n.solve n.search (solver_at x)
+            (λ t. absurd (never t)) (λ _ _. k.is ∙ decides (dec.decide x.activity.activities ps (state_at x.state)));
+        left = k.left;
+        kept = k.kept;
+      }
+    where
+      never : (nof ≤ n.search) ⊎ (budget ≤ n.solve) → ⊥
+      never (inl h) = omega arith
+      never (inr h) = omega arith
 
 -- ---- propagation
 
--- no clause has the index that stands for no reason
-small : (g : Config) (h : Header) (w : List ℕ) → Still g h w → g.sizes.room ≤ no_reason
-small g h w s = omega (arith, s.rep.room.room)
-
 -- above level 0, the false clause can be analysed
-clash_conflict : {cfg : Script.Config} {c : ℕ} {s : State.State} → Conflict cfg c s → 0 < decision_level s.vars → Uip.Conflict cfg.variables s.store s.vars c
+clash_conflict : {cfg : Script.Config} {c : ℕ} {s : ms.State} → Conflict cfg c s → 0 < decision_level s.vars → Uip.Conflict cfg.variables s.store s.vars c
 clash_conflict {cfg} {c} {s} k d =
     let two = (k.falsified.formed.store.proper (clause_at s.store c) (get_or_in s.store.clauses c [] k.falsified.stored)).two in
     record {
@@ -205,7 +218,7 @@ clash_conflict {cfg} {c} {s} k d =
       top = (get_or (clause_at s.store c) 0 0, get_or_in (clause_at s.store c) 0 0 (omega arith), k.first);
     }
 
-module _ {cfg : Script.Config} {ps : List ℕ} {s : State.State} (o : Ongoing cfg ps s) where
+module _ {cfg : Script.Config} {ps : List ℕ} {s : ms.State} (o : Ongoing cfg ps s) where
   finished_clash : (r : prop.Propagated) (c : ℕ) → Finished (Rested cfg s) (Clashed cfg s) r → r.conflict ≡ some c → 0 < decision_level r.state.vars
       → Uip.Conflict cfg.variables r.state.store r.state.vars c
   finished_clash r c (quiet s' h q) e d = let z : ◌≡◌ {A = ℕ} 0 1 = cc in absurd (omega arith)
@@ -217,7 +230,7 @@ module _ {cfg : Script.Config} {ps : List ℕ} {s : State.State} (o : Ongoing cf
   finished_quiet r (quiet s' h q) e = record { searching = advance_searching cfg ps s s' h.advance h.watching.formed o.searching; watching = h.watching }
   finished_quiet r (clash c' s' h) e = let z : ◌≡◌ {A = ℕ} 0 1 = cc in absurd (omega arith)
 
-module _ (cfg : Script.Config) (ps : List ℕ) (budget nof a b : ℕ) (y : State.Solver) where
+module _ (cfg : Script.Config) (ps : List ℕ) (budget nof a b : ℕ) (y : ms.Solver) where
   turn_clash : (c : ℕ) → (propagate cfg.variables y.state).conflict ≡ some c
       → on_conflict cfg a b (with_state y (propagate cfg.variables y.state).state) c ≡ turn cfg ps budget nof a b y
   unfolding turn
@@ -229,53 +242,76 @@ module _ (cfg : Script.Config) (ps : List ℕ) (budget nof a b : ℕ) (y : State
   turn_quiet e = rw (e, turn)
 
 -- after `propagate`
-module _ (g : Config) (ps : List ℕ) (x : Solver) (w : List ℕ) (acts : List Float) (u : Running g ps x w acts) (w₁ : List ℕ) (r : Propagated)
-    (p : Gives g x.head w w₁ (propagate g.sizes.vars (state_at g x.head w)) r) where
+module _ (ps : List ℕ) (x : Solver) (u : Running ps x) {s₁ : State} {r : Option ℕ} (p : Gives x.state s₁ (propagate x.state.config.vars (state_at x.state)) r) where
+  abbrev cfg : Script.Config
+  cfg = config_of x.state.config
+
   abbrev o : prop.Propagated
-  o = propagate g.sizes.vars (state_at g x.head w)
+  o = propagate x.state.config.vars (state_at x.state)
 
-  finished : Finished (Rested (config_of g) (state_at g x.head w)) (Clashed (config_of g) (state_at g x.head w)) o
-  finished = propagated (config_of g) (small g x.head w u.still) (state_at g x.head w) u.ongoing.watching
+  abbrev x₁ : Solver
+  x₁ = record { state = s₁; activity = x.activity }
 
-  module _ (t : r.conflict ≡ true) where
-    clashes : o.conflict ≡ some r.clause
-    clashes = p.conflict ∙ ap (λ (q : Bool). conflict_if q r.clause) t
+  finished : Finished (Rested (config_of x.state.config) (state_at x.state)) (Clashed (config_of x.state.config) (state_at x.state)) o
+  finished = propagated cfg (omega (arith, u.still.sized.room)) (state_at x.state) u.ongoing.watching
 
-    -- what the analysis asks
-    pub clash_asks : 0 < decision_level (state_at g r.head w₁).vars
-        → Uip.Conflict g.sizes.vars (state_at g r.head w₁).store (state_at g r.head w₁).vars r.clause
+  counted_then : length x.activity.activities ≡ s₁.config.vars
+  counted_then = u.counted ∙ sym (ap (λ (g : Config). g.vars) p.beside.config)
+
+  module _ {c : ℕ} (t : r ≡ some c) where
+    clashes : o.conflict ≡ some c
+    clashes = p.conflict ∙ t
+
+    -- what comes next asks
+    pub clash_asks : Conflicting (record { state = s₁; activity = x.activity }) c
     clash_asks =
-        subst (λ (s : State.State). 0 < decision_level s.vars → Uip.Conflict g.sizes.vars s.store s.vars r.clause) (sym p.has.state)
-        (finished_clash u.ongoing o r.clause finished clashes)
+        record {
+          still = p.has.still;
+          conflict =
+              subst (λ (g : Config). 0 < decision_level s₁.trail.vars → Uip.Conflict g.vars (state_at s₁).store s₁.trail.vars c) (sym p.beside.config)
+              (subst (λ (s : ms.State). 0 < decision_level s.vars → Uip.Conflict x.state.config.vars s.store s.vars c) (sym p.has.state)
+              (finished_clash u.ongoing o c finished clashes));
+          sized = counted_then;
+        }
 
-    pub clash_turned : (budget nof a b : ℕ) (t' : Outcome) (w₂ : List ℕ) (acts₂ : List Float)
-        → Turned g (on_conflict (config_of g) a b (solver_at g (record { head = r.head; inc = x.inc }) w₁ acts) r.clause) t' w₂ acts₂
-        → Turned g (turn (config_of g) ps budget nof a b (solver_at g x w acts)) t' w₂ acts₂
-    clash_turned budget nof a b t' w₂ acts₂ k =
-        subst (λ (m : model.Turn). Turned g m t' w₂ acts₂)
-        (ap (λ (s : State.State). on_conflict (config_of g) a b (with_state (solver_at g x w acts) s) r.clause) p.has.state
-        ∙ turn_clash (config_of g) ps budget nof a b (solver_at g x w acts) r.clause clashes)
-        k
+    pub clash_turned : (budget nof : ℕ) (n : Conflicts) {n₂ : Conflicts} {x₂ : Solver} {t' : Option Status}
+        → Turned (on_conflict (config_of s₁.config) n.solve n.search (solver_at (record { state = s₁; activity = x.activity })) c) (record { state = s₁; activity = x.activity }) x₂ n₂ t'
+        → Turned (turn (config_of x.state.config) ps budget nof n.solve n.search (solver_at x)) x x₂ n₂ t'
+    clash_turned budget nof n k =
+        record {
+          is =
+              k.is
+              ∙ ap (λ (g : Config). on_conflict (config_of g) n.solve n.search (solver_at x₁) c) p.beside.config
+              ∙ ap (λ (s : ms.State). on_conflict cfg n.solve n.search (with_state (solver_at x) s) c) p.has.state
+              ∙ turn_clash cfg ps budget nof n.solve n.search (solver_at x) c clashes;
+          left = k.left;
+          kept = kept_then (record { config = p.beside.config; counted = refl }) k.kept;
+        }
 
-  module _ (f : r.conflict ≡ false) where
+  module _ (t : r ≡ none) where
     rests : o.conflict ≡ none
-    rests = p.conflict ∙ ap (λ (q : Bool). conflict_if q r.clause) f
+    rests = p.conflict ∙ t
 
     -- the search may go on
-    pub rest_running : Running g ps (record { head = r.head; inc = x.inc }) w₁ acts
+    pub rest_running : Running ps (record { state = s₁; activity = x.activity })
     rest_running =
         record {
           still = p.has.still;
-          ongoing = subst (Ongoing (config_of g) ps) (sym p.has.state) (finished_quiet u.ongoing o finished rests);
-          counted = u.counted;
-          assumable = u.assumable;
+          ongoing = rw p.beside.config (subst (Ongoing cfg ps) (sym p.has.state) (finished_quiet u.ongoing o finished rests));
+          counted = counted_then;
+          assumable = rw p.beside.config u.assumable;
         }
 
-    pub rest_turned : (budget nof a b : ℕ) (t' : Outcome) (w₂ : List ℕ)
-        → Turned g (on_no_conflict (config_of g) ps budget nof a b (solver_at g (record { head = r.head; inc = x.inc }) w₁ acts)) t' w₂ acts
-        → Turned g (turn (config_of g) ps budget nof a b (solver_at g x w acts)) t' w₂ acts
-    rest_turned budget nof a b t' w₂ k =
-        subst (λ (m : model.Turn). Turned g m t' w₂ acts)
-        (ap (λ (s : State.State). on_no_conflict (config_of g) ps budget nof a b (with_state (solver_at g x w acts) s)) p.has.state
-        ∙ turn_quiet (config_of g) ps budget nof a b (solver_at g x w acts) rests)
-        k
+    pub rest_turned : (budget nof : ℕ) (n : Conflicts) {n₂ : Conflicts} {x₂ : Solver} {t' : Option Status}
+        → Turned (on_no_conflict (config_of s₁.config) ps budget nof n.solve n.search (solver_at (record { state = s₁; activity = x.activity }))) (record { state = s₁; activity = x.activity }) x₂ n₂ t'
+        → Turned (turn (config_of x.state.config) ps budget nof n.solve n.search (solver_at x)) x x₂ n₂ t'
+    rest_turned budget nof n k =
+        record {
+          is =
+              k.is
+              ∙ ap (λ (g : Config). on_no_conflict (config_of g) ps budget nof n.solve n.search (solver_at x₁)) p.beside.config
+              ∙ ap (λ (s : ms.State). on_no_conflict cfg ps budget nof n.solve n.search (with_state (solver_at x) s)) p.has.state
+              ∙ turn_quiet cfg ps budget nof n.solve n.search (solver_at x) rests;
+          left = k.left;
+          kept = kept_then (record { config = p.beside.config; counted = refl }) k.kept;
+        }

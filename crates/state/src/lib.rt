@@ -1,39 +1,90 @@
-// The state in one work slice, and the header beside it.
+// The state of a run: the blocks that the work slice is divided into, and what stands beside them.
 #![tactic(auto)]
 
-pub mod assignment;
-pub mod clauses;
-pub mod marks;
-pub mod start;
-pub mod watches;
+ghost use Rattle.std.specs.Prelude.{◌≡◌, length};
+ghost use Rattle.model.specs.Trail.{cancel_until};
+ghost use Rattle.state.specs.Still.{Still, Has, Beside, state_at};
+ghost use Rattle.state.specs.Start.{Room, Started};
+ghost use Rattle.state.specs.Fresh.{Storable, Stored};
 
-use litset::Head;
-use store::StoreHead;
-use trail::TrailHead;
-
-// What never changes: V, C and L.
-#[derive(Clone, Copy)]
-pub struct Sizes {
-    pub vars: usize,
-    pub room: usize,
-    pub lit_room: usize,
-}
-
-// What changes beside the slice.
-#[derive(Clone, Copy)]
-pub struct Header {
-    pub trail: TrailHead,
-    pub store: StoreHead,
-    pub finals: Head,
-    pub qhead: usize,
-    pub ok: bool,
-}
+use litset::LitSet;
+use scratch::Scratch;
+use store::Store;
+use trail::Trail;
+use watch::Watches;
 
 // What a script's header says.
 #[derive(Clone, Copy)]
 pub struct Config {
-    pub sizes: Sizes,
+    pub vars: usize,
+    pub room: usize,
+    pub lit_room: usize,
     pub mode: u32,
     pub phase: u32,
     pub unit: u32,
+}
+
+#[derive(Drop)]
+pub struct State<'a> {
+    pub config: Config,
+    pub trail: Trail<'a>,
+    pub scratch: Scratch<'a>,
+    pub watches: Watches<'a>,
+    pub clauses: Store<'a>,
+    pub finals: LitSet<'a>,
+    pub qhead: usize,
+    pub ok: bool,
+}
+
+impl<'a> State<'a> {
+    // No clause and nothing assigned, whatever stood in the slice.
+    pub fn new(config: Config, work: &'a mut [u32]) -> State<'a>
+        requires { Room config (length work.old) }
+        ensures { Started config work.old result }
+    {
+        let n = config.vars;
+        let (trail, rest) = work.split_at_mut(8 * n);
+        let (scratch, rest) = rest.split_at_mut(5 * n);
+        let (watches, rest) = rest.split_at_mut(8 * n + 4 * config.room);
+        let (starts, rest) = rest.split_at_mut(config.room + 1);
+        let (literals, rest) = rest.split_at_mut(config.lit_room);
+        let (flags, rest) = rest.split_at_mut(2 * n);
+        let (items, _) = rest.split_at_mut(n + 1);
+        State {
+            config,
+            trail: Trail::new(trail, n),
+            scratch: Scratch::new(scratch, n),
+            watches: Watches::new(watches, 2 * n, 2 * config.room),
+            clauses: Store::new(starts, literals),
+            finals: LitSet::new(flags, items),
+            qhead: 0,
+            ok: true,
+        }
+    }
+
+    // Back to a level: what stands above it is unset, and the phases are saved as the configuration says.
+    pub fn cancel_until(&mut self, level: usize)
+        requires { Still self.old }
+        ensures has { Has self.new (cancel_until self.old.config.phase (state_at self.old) level) }
+        ensures beside { Beside self.old self.new }
+        ensures stored { (self.new.watches ≡ self.old.watches) × (self.new.clauses ≡ self.old.clauses) }
+    {
+        if self.trail.decision_level() <= level {
+            return;
+        }
+        self.trail.cancel_until(level, self.config.phase);
+        self.qhead = self.trail.assigned();
+    }
+
+    // The literals pushed become a clause, and its first two are watched, each with the other as blocker.
+    pub fn store_pushed(&mut self)
+        requires { Storable self.old.clauses self.old.watches }
+        ensures { Stored self.old self.new }
+    {
+        let c = self.clauses.len();
+        self.clauses.close();
+        let p = self.clauses.lit(c, 0);
+        let q = self.clauses.lit(c, 1);
+        self.watches.attach(c, p, q);
+    }
 }

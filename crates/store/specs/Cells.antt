@@ -1,24 +1,17 @@
--- Every cell of the slice shows, and what several stores do to the literals' cells.
+-- Every cell of the slices shows, and what several stores do to the literals' cells.
 use Rattle.std.specs.Prelude.{ℕ, zero, suc, ◌+◌, ◌-◌, ◌≤◌, ◌<◌, ◌≡◌, refl, List, [], ◌∷◌, ◌++◌, length, get_or, set, take, drop}
-use Rattle.std.proofs.Common.{arith, add-zero, sym, ap, ap₂, ◌∙◌, length-take, set-set, get_or-take, get_or-drop}
+use Rattle.std.proofs.Common.{arith, add-zero, sym, ap, ◌∙◌, length-take, set-set, get_or-take, get_or-drop}
 use Rattle.std.proofs.Math.Nat.{min-le_left}
 use Rattle.std.proofs.Math.Decide.{dec_le}
 use Rattle.std.proofs.Math.ListN.{get_or-eq_default}
 use Rattle.std.proofs.lemmas.List.{set-get_or, set_comm}
-use Rattle.region.specs.Split.{split, total}
-use Rattle.region.specs.Table.{tabulate, get_or-tabulate, length-tabulate}
-use Rattle.region.specs.Whole.{split_same}
 use Rattle.model.specs.Store.{stored_literals}
-use Rattle.store.specs.View.{Clauses, clause_of, lit_pushed, written, put_pushed, shape, clause_in, view}
-use Rattle.store.specs.declared.StoreSize.{StoreSize}
-use Rattle.store.specs.declared.StoreHead.{StoreHead}
+use Rattle.store.specs.View.{Clauses, Sound, clause_of, lit_pushed, written, put_pushed, shown}
 
--- two slices of the store's length that show the same are the same
-pub all_shown : (d : StoreSize) (h : StoreHead) (w w' : List ℕ) → total (shape d) ≡ length w → length w ≡ length w' → view d h w ≡ view d h w' → w ≡ w'
-unfolding view
-all_shown d h w w' n m e =
-    split_same (shape d) w w' (sym n) (sym m ∙ sym n)
-    (ap₂ (λ (s l : List ℕ). s ∷ l ∷ []) (ap (λ (x : Clauses). x.start_cells) e) (ap (λ (x : Clauses). x.lit_cells) e))
+-- two pairs of slices that show the same are the same
+pub all_shown : (S L S' L' : List ℕ) (n u p n' u' p' : ℕ) → shown S L n u p ≡ shown S' L' n' u' p' → (S ≡ S') × (L ≡ L')
+unfolding shown
+all_shown S L S' L' n u p n' u' p' e = (ap (λ (x : Clauses). x.start_cells) e, ap (λ (x : Clauses). x.lit_cells) e)
 
 -- ---- several literals
 
@@ -59,18 +52,17 @@ part-written cells a n =
 abbrev pub Lies : Clauses → ℕ → Type 0
 Lies s c = written s.lit_cells (get_or s.start_cells c 0) (clause_of s c) ≡ s.lit_cells
 
-clause-written : (n : ℕ) (starts cells : List ℕ) (c : ℕ) → Dec (n ≤ c) → written cells (get_or starts c 0) (get_or (tabulate n (clause_in starts cells)) c []) ≡ cells
-clause-written n starts cells c (yes g) =
-    ap (written cells (get_or starts c 0)) (get_or-eq_default (tabulate n (clause_in starts cells)) [] (rw length-tabulate g))
-clause-written n starts cells c (no g) =
-    ap (written cells (get_or starts c 0)) (get_or-tabulate n (clause_in starts cells) c [] (omega arith)) ∙ part-written cells (get_or starts c 0) (get_or starts (c + 1) 0 - get_or starts c 0)
-
-pub clause_lies : (d : StoreSize) (h : StoreHead) (w : List ℕ) (c : ℕ) → Lies (view d h w) c
-unfolding view
-clause_lies d h w c = clause-written h.clauses (get_or (split (shape d) w) 0 []) (get_or (split (shape d) w) 1 []) c (dec_le h.clauses c)
+pub clause_lies : (s : Clauses) → Sound s → (c : ℕ) → Lies s c
+clause_lies s r c = go (dec_le (length s.clauses) c)
+  where
+    go : Dec (length s.clauses ≤ c) → Lies s c
+    go (yes g) = ap (written s.lit_cells (get_or s.start_cells c 0)) (get_or-eq_default s.clauses [] g)
+    go (no g) =
+        ap (written s.lit_cells (get_or s.start_cells c 0)) (r.parts c (omega arith))
+        ∙ part-written s.lit_cells (get_or s.start_cells c 0) (get_or s.start_cells (c + 1) 0 - get_or s.start_cells c 0)
 
 -- one more literal pushed
 pub put_pushed_more : (s : Clauses) (l : List ℕ) (p : ℕ) → lit_pushed (put_pushed s l) p ≡ put_pushed s (l ++ (p ∷ []))
 put_pushed_more s l p =
-    ap (λ (cells : List ℕ). record { clauses = s.clauses; pushed = l ++ (p ∷ []); start_cells = s.start_cells; lit_cells = cells })
+    ap (λ (cells : List ℕ). record { clauses = s.clauses; pushed = l ++ (p ∷ []); room = s.room; lit_room = s.lit_room; start_cells = s.start_cells; lit_cells = cells })
     (sym (written_more s.lit_cells (stored_literals s.clauses) l p))

@@ -1,134 +1,140 @@
-// The clause store: where each clause starts, and the literals in one row. It stands in a slice of its own.
+// The clause store: where each clause starts, and the literals in one row.
 #![tactic(auto)]
 
-ghost use Rattle.std.specs.Prelude.{◌≡◌, ◌&&◌, [], ◌+◌, ◌<◌, length, get_or, leb, ltb};
-ghost use Rattle.store.specs.View.{Room, Counts, Rep, Holds, view, clause_of, no_clauses, lit_set, lit_pushed, closed, discarded};
+ghost use Rattle.std.specs.Prelude.{◌≡◌, ◌&&◌, [], ◌+◌, ◌<◌, ◌≤◌, length, get_or, leb, ltb};
+ghost use Rattle.model.specs.Limits.{max_clauses, max_literals};
+ghost use Rattle.model.specs.Store.{stored_literals};
+ghost use Rattle.store.specs.View.{Sound, clause_of, next_lit, found, no_clauses, lit_set, lit_pushed, closed, discarded};
 
-use clause::{Lit, wide};
+use clause::Lit;
+use std::marker::Model;
 
-// What never changes: room for clauses, and for literals.
-#[derive(Clone, Copy)]
-pub struct StoreSize {
-    pub room: usize,
-    pub lit_room: usize,
+// Clause c goes from starts[c] to starts[c + 1]. `used` literals are in clauses, and `pushed` more are behind them for the next one.
+#[derive(Drop)]
+pub struct Store<'a> {
+    starts: &'a mut [u32],
+    literals: &'a mut [u32],
+    clauses: usize,
+    used: usize,
+    pushed: usize,
 }
 
-// What changes: the stored clauses, their literals, and the literals pushed behind them for the next clause.
-#[derive(Clone, Copy)]
-pub struct StoreHead {
-    pub clauses: usize,
-    pub literals: usize,
-    pub pushed: usize,
+impl<'a> Model for Store<'a> {
+    ghost use Rattle.store.specs.View.{Clauses, Rep, shown};
+
+    ghost Value = { Clauses };
+
+    ghost view = { λ s. shown s.starts.now s.literals.now s.clauses s.used s.pushed };
+
+    ghost invariant = { λ s. Rep s.starts.now s.literals.now s.clauses s.used s.pushed };
 }
 
-// The literals of a clause: that part of the store.
-pub fn literals(d: StoreSize, h: StoreHead, s: &[u32], c: usize) -> &[u32]
-    requires rep { Rep d h s.now }
-    requires c_lt_clauses { c < h.clauses }
-    ensures { result.now ≡ clause_of (view d h s.now) c }
-{
-    let n = d.room;
-    let m = n + 1;
-    let a = m + wide(s[c]);
-    let e = m + wide(s[c + 1]);
-    &s[a..e]
-}
-
-// How many literals a clause has.
-pub fn size(d: StoreSize, h: StoreHead, s: &[u32], c: usize) -> usize
-    requires rep { Rep d h s.now }
-    requires c_lt_clauses { c < h.clauses }
-    ensures { result ≡ length (clause_of (view d h s.now) c) }
-{
-    let a = wide(s[c]);
-    let e = wide(s[c + 1]);
-    e - a
-}
-
-// Literal i of a clause.
-pub fn lit_at(d: StoreSize, h: StoreHead, s: &[u32], c: usize, i: usize) -> Lit
-    requires rep { Rep d h s.now }
-    requires c_lt_clauses { (c < h.clauses) × (i < length (clause_of (view d h s.now) c)) }
-    ensures { result.0 ≡ get_or (clause_of (view d h s.now) c) i 0 }
-{
-    let a = d.room + 1 + wide(s[c]);
-    Lit(s[a + i])
-}
-
-// Literal i of clause c becomes p.
-pub fn set_lit(d: StoreSize, h: StoreHead, s: &mut [u32], c: usize, i: usize, p: Lit)
-    requires rep { Rep d h s.old }
-    requires c_lt_clauses { (c < h.clauses) × (i < length (clause_of (view d h s.old) c)) }
-    ensures { Holds d h s.new (lit_set (view d h s.old) c i p.0) }
-{
-    let a = d.room + 1 + wide(s[c]);
-    s[a + i] = p.0;
-}
-
-// One more literal for the next clause.
-pub fn push(d: StoreSize, h: StoreHead, s: &mut [u32], p: Lit) -> StoreHead
-    requires rep { Rep d h s.old }
-    requires pushed_bound { h.literals + h.pushed < d.lit_room }
-    ensures { Holds d result s.new (lit_pushed (view d h s.old) p.0) }
-{
-    let a = d.room + 1 + h.literals;
-    let n = h.pushed;
-    s[a + n] = p.0;
-    StoreHead {
-        clauses: h.clauses,
-        literals: h.literals,
-        pushed: n + 1,
+impl<'a> Store<'a> {
+    // The empty store, whatever stood in the slices: room for one clause less than it has starts.
+    #[tactic(auto, using(crate::specs::Laws::new_shows))]
+    pub fn new(starts: &'a mut [u32], literals: &'a mut [u32]) -> Store<'a>
+        requires starts { (1 ≤ length starts.old) × (length starts.old ≤ max_clauses + 1) }
+        requires literals { length literals.old ≤ max_literals }
+        ensures { result ≡ no_clauses (found starts.old literals.old) }
+    {
+        starts[0] = 0;
+        Store {
+            starts,
+            literals,
+            clauses: 0,
+            used: 0,
+            pushed: 0,
+        }
     }
-}
 
-// The literals pushed become a clause.
-pub fn close(d: StoreSize, h: StoreHead, s: &mut [u32]) -> StoreHead
-    requires rep { Rep d h s.old }
-    requires clauses_lt_room { h.clauses < d.room }
-    ensures { Holds d result s.new (closed (view d h s.old)) }
-{
-    let c = h.clauses + 1;
-    let e = h.literals + h.pushed;
-    s[c] = e as u32;
-    StoreHead {
-        clauses: c,
-        literals: e,
-        pushed: 0,
+    // What is true of every store, for a caller's proof.
+    pub fn sound(&self)
+        ensures { Sound self.now }
+    {
+        let _ = &self.starts;
     }
-}
 
-// The literals pushed are given up.
-pub fn discard(d: StoreSize, h: StoreHead, s: &[u32]) -> StoreHead
-    requires { Rep d h s.now }
-    ensures { Holds d result s.now (discarded (view d h s.now)) }
-{
-    StoreHead {
-        clauses: h.clauses,
-        literals: h.literals,
-        pushed: 0,
+    // How many clauses are stored.
+    #[tactic(auto, using(crate::specs::Laws::count_is))]
+    pub fn len(&self) -> usize
+        ensures { result ≡ length self.now.clauses }
+    {
+        self.clauses
     }
-}
 
-// Whether a clause of n literals can be stored.
-pub fn has_room(d: StoreSize, h: StoreHead, n: usize) -> bool
-    requires { Counts d h }
-    ensures { result ≡ (ltb h.clauses d.room && leb (h.literals + n) d.lit_room) }
-{
-    if h.clauses < d.room {
-        return n <= d.lit_room - h.literals;
+    // The literals of a clause.
+    #[tactic(auto, using(crate::specs::Laws::count_is, crate::specs::Laws::part_is))]
+    pub fn clause(&self, c: usize) -> &[u32]
+        requires { c < length self.now.clauses }
+        ensures { result.now ≡ clause_of self.now c }
+    {
+        let starts = &self.starts;
+        &self.literals[starts[c] as usize..starts[c + 1] as usize]
     }
-    false
-}
 
-// The empty store, whatever stood in the slice.
-pub fn start(d: StoreSize, s: &mut [u32]) -> StoreHead
-    requires { Room d (length s.old) }
-    ensures { Holds d result s.new (no_clauses (view d result s.old)) }
-{
-    s[0] = 0;
-    StoreHead {
-        clauses: 0,
-        literals: 0,
-        pushed: 0,
+    // How many literals a clause has.
+    pub fn size(&self, c: usize) -> usize
+        requires { c < length self.now.clauses }
+        ensures { result ≡ length (clause_of self.now c) }
+    {
+        self.clause(c).len()
+    }
+
+    // Literal i of a clause.
+    pub fn lit(&self, c: usize, i: usize) -> Lit
+        requires { (c < length self.now.clauses) × (i < length (clause_of self.now c)) }
+        ensures { result.0 ≡ get_or (clause_of self.now c) i 0 }
+    {
+        Lit(self.clause(c)[i])
+    }
+
+    // Literal i of clause c becomes p.
+    #[tactic(auto, using(crate::specs::Laws::count_is, crate::specs::Laws::lit_within, crate::specs::Laws::set_shows))]
+    pub fn set_lit(&mut self, c: usize, i: usize, p: Lit)
+        requires { (c < length self.old.clauses) × (i < length (clause_of self.old c)) }
+        ensures { self.new ≡ lit_set self.old c i p.0 }
+    {
+        let starts = &self.starts;
+        let a = starts[c] as usize;
+        self.literals[a + i] = p.0;
+    }
+
+    // One more literal for the next clause.
+    #[tactic(auto, using(crate::specs::Laws::push_within, crate::specs::Laws::push_keeps, crate::specs::Laws::push_shows))]
+    pub fn push(&mut self, p: Lit)
+        requires { next_lit self.old < self.old.lit_room }
+        ensures { self.new ≡ lit_pushed self.old p.0 }
+    {
+        self.literals[self.used + self.pushed] = p.0;
+        self.pushed += 1;
+    }
+
+    // The literals pushed become a clause.
+    #[tactic(auto, using(crate::specs::Laws::close_within, crate::specs::Laws::close_shows))]
+    pub fn close(&mut self)
+        requires { length self.old.clauses < self.old.room }
+        ensures { self.new ≡ closed self.old }
+    {
+        self.clauses += 1;
+        self.used += self.pushed;
+        self.pushed = 0;
+        self.starts[self.clauses] = self.used as u32;
+    }
+
+    // The literals pushed are given up.
+    #[tactic(auto, using(crate::specs::Laws::discard_shows))]
+    pub fn discard(&mut self)
+        ensures { self.new ≡ discarded self.old }
+    {
+        self.pushed = 0;
+    }
+
+    // Whether a clause of n literals can be stored.
+    #[tactic(auto, using(crate::specs::Laws::count_is, crate::specs::Laws::stored_is, crate::specs::Laws::starts_room, crate::specs::Laws::lit_room_is))]
+    pub fn has_room(&self, n: usize) -> bool
+        ensures { result ≡ (ltb (length self.now.clauses) self.now.room && leb (stored_literals self.now.clauses + n) self.now.lit_room) }
+    {
+        // The sum of used and n may not fit its type.
+        self.clauses < self.starts.len() - 1 && n <= self.literals.len() - self.used
     }
 }

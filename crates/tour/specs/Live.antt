@@ -1,39 +1,37 @@
 -- What the steps of a tour keep, and how each step keeps it.
-use Rattle.std.specs.Prelude.{ℕ, zero, suc, ◌+◌, ◌-◌, ◌*◌, ◌≤◌, ◌<◌, ◌≡◌, Bool, ◌≢◌, List, [], ◌∷◌, ◌++◌, length, get_or, take}
-use Rattle.std.proofs.Common.{arith, not-suc-le-zero, sym, ap, ◌∙◌, ltb-true, ltb-false}
-use Rattle.std.proofs.Math.Path.{refl}
-use Rattle.std.proofs.Math.Bool.{true, false}
-use Rattle.std.proofs.Math.Dec.{ltb}
-use Rattle.model.specs.Lit.{var}
-use Rattle.model.specs.State.{State, initial_state, decision_level}
+use Rattle.std.specs.Prelude.{ℕ, zero, suc, ◌+◌, ◌*◌, ◌≤◌, ◌<◌, ◌≡◌, refl, ◌≢◌, Bool, true, false, List, [], ◌∷◌, ◌++◌, length, get_or, set, take, drop}
+use Rattle.std.proofs.Common.{arith, not-suc-le-zero, ap, ◌∙◌, length-set}
+use Rattle.model.specs.Limits.{max_variables}
+use Rattle.model.specs.Lit.{var, sign}
+use Rattle.model.specs.State as model
+use Rattle.model.specs.State.{initial_state, decision_level}
 use Rattle.model.specs.Trail.{unchecked_enqueue, new_decision_level, vars_until, level_end}
-use Rattle.model.specs.Store.{stored_literals}
-use Rattle.trail.specs.View.{LitsOf, Undoable, enqueued, next_level, until}
-use Rattle.store.specs.View.{lit_pushed, put_pushed}
+use Rattle.model.specs.Final.{mem}
+use Rattle.lawbase.specs.Basics.{neg_range}
+use Rattle.assign.proofs.Cancel.{unset-length}
+use Rattle.trail.specs.View.{Assignment, LitsOf, enqueued, next_level, until}
+use Rattle.store.specs.View.{Clauses, put_pushed, lit_pushed, closed, discarded}
 use Rattle.store.specs.Cells.{put_pushed_more}
-use Rattle.watch.specs.View.{blocked}
-use Rattle.litset.specs.View.{Members}
-use Rattle.watch.specs.declared.Cursor.{Cursor}
-use Rattle.state.specs.declared.Sizes.{Sizes}
-use Rattle.state.specs.declared.Header.{Header}
-use Rattle.state.specs.View.{Whole, whole, Rep, Holds, with_assignment, with_watches, with_clauses, with_final}
-use Rattle.state.specs.StartLaws.{Started}
-use Rattle.state.specs.AssignmentLaws.{whole_until, assigned_counted, levels_counted}
-use Rattle.state.specs.ClauseLaws.{count_is, literals_is}
-use Rattle.state.specs.WatchLaws.{More, Gone}
-use Rattle.state.specs.Fresh.{Fresh, fresh_same, fresh-blocked, fresh_gone, Storable, Stored}
+use Rattle.watch.specs.View.{Watches, list_of, blocked, moved}
+use Rattle.watch.specs.Sizes.{SameSizes, blocked_sizes, moved_sizes, attached_sizes}
+use Rattle.watch.specs.Uses.{blocked_under, moved_under}
+use Rattle.litset.specs.View.{Members, inserted, new_cell}
+use Rattle.state.specs.declared.Config.{Config}
+use Rattle.state.specs.declared.State.{State}
+use Rattle.state.specs.Start.{Started}
+use Rattle.state.specs.Fresh.{Fresh, Storable, stored_in, attached_in, fresh_attached}
 
--- the literals of the trail are of variables
-abbrev pub Lits : Sizes → Whole → Type 0
-Lits d x = LitsOf d.vars x.assignment.vars.trail
-
-pub record Live (d : Sizes) (h : Header) (w : List ℕ) : Type 0 where
-  pub rep : Rep d h w
-  pub fresh : Fresh (whole d h w)
-  pub lits : Lits d (whole d h w)
-
-pub live_of : {d : Sizes} {h : Header} {w : List ℕ} {x : Whole} → Holds d h w x → Fresh x → Lits d x → Live d h w
-live_of k f l = record { rep = k.rep; fresh = rw k.whole f; lits = rw k.whole l }
+-- the blocks that the steps use fit the configuration; the nodes in the lists are of stored clauses, and the literals of the trail of variables
+pub record Live (s : State) : Type 0 where
+  pub some : 1 ≤ s.config.vars
+  pub vars : s.config.vars ≤ max_variables
+  pub values : length s.trail.vars.values ≡ s.config.vars
+  pub lists : length s.watches.lists ≡ 2 * s.config.vars
+  pub nodes : 2 * s.clauses.room ≤ length s.watches.blockers
+  pub flags : length s.finals.flag_cells ≡ 2 * s.config.vars
+  pub members : length s.finals.item_cells ≡ s.config.vars + 1
+  pub fresh : Fresh s.clauses s.watches
+  pub lits : LitsOf s.config.vars s.trail.vars.trail
 
 -- ---- literals on the trail
 
@@ -52,106 +50,117 @@ lits_fewer n (suc m) [] k i b = absurd (not-suc-le-zero b)
 lits_fewer n (suc m) (x ∷ xs) k zero b = k 0 (omega arith)
 lits_fewer n (suc m) (x ∷ xs) k (suc i) b = lits_fewer n m xs (λ j a. k (suc j) (omega arith)) i (omega arith)
 
+chosen : (b : Bool) (xs ys : List ℕ) → length ys ≡ length xs → length {A = ℕ} (elim b [ true ↦ xs | false ↦ ys ]) ≡ length xs
+chosen true xs ys e = refl
+chosen false xs ys e = e
+
+new_cell-length : (items : List ℕ) (l : ℕ) (cells : List ℕ) (i x : ℕ) → length (new_cell items l cells i x) ≡ length cells
+unfolding new_cell
+new_cell-length items l cells i x = chosen (mem l items) cells (set cells i x) (length-set cells i x)
+
+-- the state at the start has no clause and nothing on the trail
+pub live_started : {g : Config} {w : List ℕ} {s : State} → Started g w s → Live s
+unfolding initial_state
+live_started {g} {w} {s} k =
+    let z = k.has.still.sized in
+    record {
+      some = z.some;
+      vars = z.vars;
+      values = z.values;
+      lists = z.lists;
+      nodes = rw (z.clauses, z.blockers) (omega arith);
+      flags = z.flags;
+      members = z.members;
+      fresh = record { under = k.has.still.idle.nodes };
+      lits = lits_none s.config.vars s.trail.vars.trail (ap (λ (t : model.State). t.vars.trail) k.has.state);
+    }
+
+-- three literals are pushed, after what was pushed before is given up
+pub three_pushed : (c : Clauses) (p q r : ℕ) → lit_pushed (lit_pushed (lit_pushed (discarded c) p) q) r ≡ put_pushed c (p ∷ q ∷ r ∷ [])
+three_pushed c p q r =
+    ap (λ (k : Clauses). lit_pushed (lit_pushed k q) r) (put_pushed_more c [] p) ∙ ap (λ (k : Clauses). lit_pushed k r) (put_pushed_more c (p ∷ []) q) ∙ put_pushed_more c (p ∷ q ∷ []) r
+
 -- ---- the steps
 
-pub live_started : {d : Sizes} {h : Header} {w₀ w : List ℕ} → Started d h w₀ w → Live d h w
-unfolding initial_state
-live_started {d} k =
-    record { rep = k.rep; fresh = k.fresh; lits = lits_none d.vars _ (ap (λ (s : State). s.vars.trail) k.state) }
+same_sizes : (w : Watches) → SameSizes w w
+same_sizes w = record { lists = refl; blockers = refl }
 
-module _ {d : Sizes} {h r : Header} {w w' : List ℕ} (v : Live d h w) where
-  pub live_enqueued : (p from : ℕ) → var p < d.vars → Holds d r w' (with_assignment (whole d h w) (enqueued (whole d h w).assignment p from)) → Live d r w'
-  unfolding unchecked_enqueue
-  live_enqueued p from g k = live_of k (fresh_same refl refl v.fresh) (lits_more d.vars p (whole d h w).assignment.vars.trail v.lits g)
+module _ {s : State} (k : Live s) where
+  -- other contents, in blocks of the same sizes
+  live_of : (t : Assignment) (w : Watches) (c : Clauses) (f : Members) (q : ℕ) → length t.vars.values ≡ length s.trail.vars.values → LitsOf s.config.vars t.vars.trail
+      → SameSizes s.watches w → c.room ≡ s.clauses.room → Fresh c w → length f.flag_cells ≡ length s.finals.flag_cells → length f.item_cells ≡ length s.finals.item_cells
+      → Live (record s { trail = t; watches = w; clauses = c; finals = f; qhead = q })
+  live_of t w c f q hv hl hw hc hf hg hi =
+      record {
+        some = k.some;
+        vars = k.vars;
+        values = hv ∙ k.values;
+        lists = hw.lists ∙ k.lists;
+        nodes = rw (hc, hw.blockers) k.nodes;
+        flags = hg ∙ k.flags;
+        members = hi ∙ k.members;
+        fresh = hf;
+        lits = hl;
+      }
 
-  pub live_level : Holds d r w' (with_assignment (whole d h w) (next_level (whole d h w).assignment)) → Live d r w'
+  -- ---- on the trail
+
+  live_trail : (t : Assignment) (q : ℕ) → length t.vars.values ≡ length s.trail.vars.values → LitsOf s.config.vars t.vars.trail → Live (record s { trail = t; qhead = q })
+  live_trail t q hv hl = live_of t s.watches s.clauses s.finals q hv hl (same_sizes s.watches) refl k.fresh refl refl
+
+  pub live_level : Live (record s { trail = next_level s.trail })
   unfolding new_decision_level
-  live_level k = live_of k (fresh_same refl refl v.fresh) v.lits
+  live_level = live_trail (next_level s.trail) s.qhead refl k.lits
 
-  pub live_until : (phase level : ℕ) → Holds d r w' (whole_until phase (whole d h w) level) → Live d r w'
-  unfolding whole_until vars_until
-  live_until phase level k = go (ltb level (decision_level (whole d h w).assignment.vars)) refl
-    where
-      go : (b : Bool) → ltb level (decision_level (whole d h w).assignment.vars) ≡ b → Live d r w'
-      go true e =
-          let k' : Holds d r w' (with_assignment (whole d h w) (until phase (whole d h w).assignment level)) = rw (e, whole_until) at k in
-          live_of k' (fresh_same refl refl v.fresh) (lits_fewer d.vars (level_end (whole d h w).assignment.vars level) (whole d h w).assignment.vars.trail v.lits)
-      go false e =
-          let k' : Holds d r w' (whole d h w) = rw (e, whole_until) at k in
-          live_of k' v.fresh v.lits
+  pub live_enqueued : (p from : ℕ) → var p < s.config.vars → Live (record s { trail = enqueued s.trail p from })
+  unfolding unchecked_enqueue
+  live_enqueued p from g =
+      live_trail (enqueued s.trail p from) s.qhead (length-set s.trail.vars.values (var p) (sign p)) (lits_more s.config.vars p s.trail.vars.trail k.lits g)
 
-  pub live_final : (xs : Members) → Holds d r w' (with_final (whole d h w) xs) → Live d r w'
-  live_final xs k = live_of k (fresh_same refl refl v.fresh) v.lits
+  pub live_until : (phase level q : ℕ) → Live (record s { trail = until phase s.trail level; qhead = q })
+  unfolding vars_until
+  live_until phase level q =
+      let at = level_end s.trail.vars level in
+      live_trail (until phase s.trail level) q (unset-length s.trail.vars.values (drop at s.trail.vars.trail)) (lits_fewer s.config.vars at s.trail.vars.trail k.lits)
 
-  pub live_blocked : (x b : ℕ) → Holds d r w' (with_watches (whole d h w) (blocked x b (whole d h w).watches)) → Live d r w'
-  live_blocked x b k = live_of k (fresh-blocked v.fresh x b) v.lits
+  -- ---- in the watch lists
 
-  pub live_stored : Stored d h r w w' → Live d r w'
-  live_stored k = record { rep = k.holds.rep; fresh = k.fresh; lits = rw k.holds.whole v.lits }
+  live_watches : (w : Watches) → SameSizes s.watches w → Fresh s.clauses w → Live (record s { watches = w })
+  live_watches w hw hf = live_of s.trail w s.clauses s.finals s.qhead refl k.lits hw refl hf refl refl
 
-pub live_gone : {d : Sizes} {h : Header} {w w' : List ℕ} (v : Live d h w) (l m b : ℕ) (c : Cursor) → l < 2 * d.vars → m < 2 * d.vars → l ≢ m
-    → More l c (whole d h w) → Gone d h w' l m b (whole d h w) c → Live d h w'
-live_gone {d} {h} {w} {w'} v l m b c hl hm n p k =
-    record {
-      rep = k.holds.rep;
-      fresh = fresh_gone d h w v.rep v.fresh l m b c w' hl hm n p k;
-      lits = rw k.holds.whole v.lits;
-    }
+  pub live_blocked : (x b : ℕ) → Live (record s { watches = blocked x b s.watches })
+  live_blocked x b =
+      live_watches (blocked x b s.watches) (blocked_sizes x b s.watches) (record { under = blocked_under (2 * length s.clauses.clauses) x b s.watches k.fresh.under })
 
--- ---- the first node of a list, as tested by the code
+  pub live_moved : (l i m b : ℕ) → l < 2 * s.config.vars → m < 2 * s.config.vars → l ≢ m → i < length (list_of s.watches l) → Live (record s { watches = moved l i m b s.watches })
+  live_moved l i m b hl hm n hi =
+      let f = moved_under l i s.watches (omega (arith, k.lists)) hi (2 * length s.clauses.clauses) m b (omega (arith, k.lists)) n k.fresh.under in
+      live_watches (moved l i m b s.watches) (moved_sizes l i m b s.watches) (record { under = f })
 
-module _ (i : ℕ) (xs : List ℕ) (b : Bool) (t : b ≡ ltb i (length xs)) where
-  pub has_one : b ≡ true → i < length xs
-  has_one f = ltb-true i (length xs) (sym t ∙ f)
+  -- ---- in the final clause
 
-  pub has_none : b ≡ false → i ≡ 0 → length xs ≡ 0
-  has_none f e = let n : length xs ≤ i = ltb-false i (length xs) (sym t ∙ f) in omega arith
+  pub live_inserted : (l : ℕ) → Live (record s { finals = inserted s.finals l })
+  live_inserted l =
+      let f = s.finals in
+      live_of s.trail s.watches s.clauses (inserted f l) s.qhead refl k.lits (same_sizes s.watches) refl k.fresh (new_cell-length f.items l f.flag_cells l 1)
+      (new_cell-length f.items l f.item_cells (length f.items) l)
 
--- ---- the way back, as tested by the code
+  -- ---- a clause of the literals ps
 
-pub undoable : {d : Sizes} {h : Header} {w : List ℕ} (v : Live d h w) (level a b : ℕ) → a ≡ get_or (whole d h w).assignment.vars.limits level 0
-    → (t : ℕ) → t + 1 ≡ h.trail.levels → b ≡ get_or (whole d h w).assignment.vars.limits t 0
-    → a ≤ h.trail.assigned → a ≤ b → Undoable d.vars (whole d h w).assignment.vars level
-undoable {d} {h} {w} v level a b ea t et eb ha hb =
-    let top : decision_level (whole d h w).assignment.vars - 1 ≡ t = omega (arith, levels_counted v.rep) in
-    record {
-      within = omega (arith, ea, assigned_counted v.rep);
-      ordered = rw top (omega (arith, ea, eb));
-      lits = v.lits;
-    }
+  module _ (ps : List ℕ) (room : length s.clauses.clauses < s.clauses.room) (two : 2 ≤ length ps) (hp : get_or ps 0 0 < 2 * s.config.vars) (hq : get_or ps 1 0 < 2 * s.config.vars) where
+    storable : Storable (put_pushed s.clauses ps) s.watches
+    storable =
+        record {
+          fresh = record { under = k.fresh.under };
+          room = room;
+          nodes = k.nodes;
+          two = two;
+          first = rw k.lists (neg_range (get_or ps 0 0) s.config.vars hp);
+          second = rw k.lists (neg_range (get_or ps 1 0) s.config.vars hq);
+        }
 
--- ---- three literals are pushed, after what was pushed before is given up
-
-abbrev pub with_pushed : Whole → List ℕ → Whole
-with_pushed x ps = with_clauses x (put_pushed x.clauses ps)
-
--- room for the literal that comes after ps
-pub roomy : {d : Sizes} {h r : Header} {w w' : List ℕ} (v : Live d h w) (ps : List ℕ) → Holds d r w' (with_pushed (whole d h w) ps)
-    → h.store.literals + length ps < d.lit_room
-    → stored_literals (whole d r w').clauses.clauses + length (whole d r w').clauses.pushed < d.lit_room
-roomy {d} {h} {r} {w} {w'} v ps k g = rw k.whole (rw (literals_is d h w v.rep) at g)
-
-pub storable : {d : Sizes} {h r : Header} {w w' : List ℕ} (v : Live d h w) (p q s : ℕ) → Holds d r w' (with_pushed (whole d h w) (p ∷ q ∷ s ∷ []))
-    → h.store.clauses < d.room → p < 2 * d.vars → q < 2 * d.vars → Storable d (whole d r w')
-storable {d} {h} {r} {w} {w'} v p q s k g hp hq =
-    rw k.whole (record { fresh = record { under = v.fresh.under }; room = rw (count_is d h w v.rep) at g; two = omega arith; first = hp; second = hq })
-
--- one literal more
-pub one_more : {d : Sizes} {r t : Header} {w₁ w₂ : List ℕ} (h : Header) (w : List ℕ) (ps : List ℕ) (p : ℕ) → Holds d r w₁ (with_pushed (whole d h w) ps)
-    → Holds d t w₂ (with_clauses (whole d r w₁) (lit_pushed (whole d r w₁).clauses p)) → Holds d t w₂ (with_pushed (whole d h w) (ps ++ (p ∷ [])))
-one_more {d} h w ps p k g =
-    record {
-      rep = g.rep;
-      whole =
-          g.whole
-          ∙ ap (λ (x : Whole). with_clauses x (lit_pushed x.clauses p)) k.whole
-          ∙ ap (with_clauses (whole d h w)) (put_pushed_more (whole d h w).clauses ps p);
-    }
-
-pub live_pushed : {d : Sizes} {h r : Header} {w w' : List ℕ} (v : Live d h w) (ps : List ℕ) → Holds d r w' (with_pushed (whole d h w) ps) → Live d r w'
-live_pushed v ps k = live_of k (record { under = v.fresh.under }) v.lits
-
--- ---- what the readers ask
-
-pub clause_in : {d : Sizes} {h : Header} {w : List ℕ} {c : ℕ} → Rep d h w → c < h.store.clauses → c < length (whole d h w).clauses.clauses
-clause_in {d} {h} {w} r g = rw (count_is d h w r) at g
+    pub live_stored : Live (stored_in (record s { clauses = put_pushed s.clauses ps }))
+    live_stored =
+        let c = put_pushed s.clauses ps in
+        live_of s.trail (attached_in c s.watches) (closed c) s.finals s.qhead refl k.lits (attached_sizes (length s.clauses.clauses) (get_or ps 0 0) (get_or ps 1 0) s.watches) refl
+        (fresh_attached c s.watches storable) refl refl

@@ -1,26 +1,17 @@
 -- The way back: one literal after the other from the trail's end comes to the definition's way back.
-use Rattle.std.specs.Prelude.{ℕ, zero, suc, ◌+◌, ◌-◌, ◌*◌, ◌≤◌, ◌<◌, max, ◌≡◌, refl, true, false, List, [], length, set, take, drop, ltb}
+use Rattle.std.specs.Prelude.{ℕ, zero, suc, ◌-◌, ◌≤◌, ◌<◌, max, ◌≡◌, refl, List, [], length, set, take, drop, ltb}
 use Rattle.std.proofs.Common.{arith, sym, ◌∙◌, lt-ltb, le-ltb, drop_of_length-le, get_or-take, drop-cons}
 use Rattle.std.proofs.Math.Decide.{dec_le}
 use Rattle.std.proofs.Math.Path.{ap}
 use Rattle.std.proofs.Math.ListN.{get_or, length-set}
 use Rattle.std.proofs.Math.Seq.{length-take-le, take-take, take-length, drop-length}
-use Rattle.region.specs.Split.{split, put}
-use Rattle.region.specs.Laws.{set_in}
 use Rattle.model.specs.Lit.{var, sign, l_undef}
 use Rattle.model.specs.State.{VarState, decision_level}
 use Rattle.model.specs.Trail.{unset, save, saved_part, vars_until, level_end}
-use Rattle.trail.specs.View.{Assignment, shape, view, Rep, Holds, Counted, LitsOf, Undoable, saves, save_if, undone, saved_from, undone_to, until}
-use Rattle.trail.specs.Laws.{values_set, trail_length, limits-length, trail_read, held, holds_assigned, holds_levels}
-use Rattle.trail.specs.declared.TrailSize.{TrailSize}
-use Rattle.trail.specs.declared.TrailHead.{TrailHead}
-
--- ---- over the lists
-
-pub saves_more : (phase last c : ℕ) → 1 < phase → saves phase last c ≡ true
-saves_more zero last c g = absurd (omega arith)
-saves_more (suc zero) last c g = absurd (omega arith)
-saves_more (suc (suc phase)) last c g = refl
+use Rattle.trail.specs.Inside.{shown, Kept}
+use Rattle.trail.specs.Laws.{limits-length}
+use Rattle.trail.specs.declared.Trail.TheInside.{Inside}
+use Rattle.trail.specs.View.{Assignment, LitsOf, Undoable, saves, save_if, undone, saved_from, undone_to, until}
 
 unset_more : (values trail : List ℕ) (k : ℕ) → k < length trail
     → set (unset values (drop (suc k) trail)) (var (get_or trail k 0)) l_undef ≡ unset values (drop k trail)
@@ -98,152 +89,57 @@ lits-take n k ps b g i q =
     let l : i < k = rw (length-take-le k ps b) at q in
     rw (get_or-take k ps i 0 l) (g i (omega arith))
 
--- ---- over the cells
+-- what holds between two turns of `cancel_until`, of the assignment b, where a was its beginning: all from the end of the trail on went
+pub record Undoing (a : Assignment) (phase last at : ℕ) (b : Assignment) : Type 0 where
+  pub low : at ≤ length b.vars.trail
+  pub high : length b.vars.trail ≤ length a.vars.trail
+  pub vars : length b.vars.values ≡ length a.vars.values
+  pub is : b ≡ undone_to phase last (length b.vars.trail) a
 
-module _ (d : TrailSize) (h : TrailHead) (w : List ℕ) (r : Rep d h w) (g : LitsOf d.vars (view d h w).vars.trail) (pos : 0 < h.assigned) where
-  -- the last literal is of one of the variables
-  pub last_var : var (get_or w (4 * d.vars + (h.assigned - 1)) 0) < d.vars
-  last_var = rw (trail_read d h w r (h.assigned - 1) (omega arith)) (g (h.assigned - 1) (rw (trail_length d h w r) (omega arith)))
+module _ (a : Assignment) (phase last at : ℕ) where
+  pub undoing_begins : at ≤ length a.vars.trail → Undoing a phase last at a
+  undoing_begins g = record { low = g; high = omega arith; vars = refl; is = sym (undone_none phase last (length a.vars.trail) a refl) }
 
-  -- its value goes, and its sign is saved
-  pub undone_saved : (phase last : ℕ) → saves phase last (h.assigned - 1) ≡ true
-      → Holds d (record { assigned = h.assigned - 1; levels = h.levels })
-      (set (set w (var (get_or w (4 * d.vars + (h.assigned - 1)) 0)) 2) (3 * d.vars + var (get_or w (4 * d.vars + (h.assigned - 1)) 0)) (sign (get_or w (4 * d.vars + (h.assigned - 1)) 0)))
-      (undone phase last (view d h w))
-  unfolding view undone
-  undone_saved phase last s =
-      let c = h.assigned - 1 in
-      let p = get_or w (4 * d.vars + c) 0 in
-      let v = var p in
-      let small : v < d.vars = last_var in
-      let ps = split (shape d) w in
-      let e1 = set_in (shape d) w 0 v 2 v (omega arith) (omega arith) in
-      let e2 = set_in (shape d) (set w v 2) 3 v (sign p) (3 * d.vars + v) (omega arith) (omega arith) in
-      held d (record { assigned = c; levels = h.levels }) (set (set w v 2) (3 * d.vars + v) (sign p)) (put (put ps 0 v 2) 3 v (sign p))
-      (record { fits = simp length-set r.room.fits; vars = r.room.vars }) (record { assigned = omega arith; levels = r.counts.levels })
-      (e2 ∙ ap (λ qs. put qs 3 v (sign p)) e1) (values_set (get_or ps 0 []) v 2 (omega arith) r.values)
-      (rw (trail_length d h w r, ← trail_read d h w r c (omega arith), s, take-take c h.assigned (get_or ps 4 []) (omega arith)))
-
-  -- the same, where the sign is x
-  pub undone_saved_as : (phase last x : ℕ) → saves phase last (h.assigned - 1) ≡ true → x ≡ sign (get_or w (4 * d.vars + (h.assigned - 1)) 0)
-      → Holds d (record { assigned = h.assigned - 1; levels = h.levels })
-      (set (set w (var (get_or w (4 * d.vars + (h.assigned - 1)) 0)) 2) (3 * d.vars + var (get_or w (4 * d.vars + (h.assigned - 1)) 0)) x)
-      (undone phase last (view d h w))
-  undone_saved_as phase last x s e = rw e (undone_saved phase last s)
-
-  -- its value goes, and no sign is saved
-  pub undone_unsaved : (phase last : ℕ) → saves phase last (h.assigned - 1) ≡ false
-      → Holds d (record { assigned = h.assigned - 1; levels = h.levels })
-      (set w (var (get_or w (4 * d.vars + (h.assigned - 1)) 0)) 2)
-      (undone phase last (view d h w))
-  unfolding view undone
-  undone_unsaved phase last s =
-      let c = h.assigned - 1 in
-      let v = var (get_or w (4 * d.vars + c) 0) in
-      let small : v < d.vars = last_var in
-      let ps = split (shape d) w in
-      held d (record { assigned = c; levels = h.levels }) (set w v 2) (put ps 0 v 2)
-      (record { fits = simp length-set r.room.fits; vars = r.room.vars }) (record { assigned = omega arith; levels = r.counts.levels })
-      (set_in (shape d) w 0 v 2 v (omega arith) (omega arith)) (values_set (get_or ps 0 []) v 2 (omega arith) r.values)
-      (rw (trail_length d h w r, ← trail_read d h w r c (omega arith), s, take-take c h.assigned (get_or ps 4 []) (omega arith)))
-
--- what holds between two turns of `cancel_until`, with h and w₀ as at its beginning: all from the end of the trail on went
-pub record Undoing (d : TrailSize) (h : TrailHead) (w₀ : List ℕ) (phase last at : ℕ) (r : TrailHead) (w : List ℕ) : Type 0 where
-  pub rep : Rep d r w
-  pub levels : r.levels ≡ h.levels
-  pub low : at ≤ r.assigned
-  pub high : r.assigned ≤ h.assigned
-  pub size : length w ≡ length w₀
-  pub view : view d r w ≡ undone_to phase last r.assigned (view d h w₀)
-
-module _ (d : TrailSize) (h : TrailHead) (w₀ : List ℕ) (start : Rep d h w₀) (phase last at : ℕ) where
-  pub undoing_begins : (level : ℕ) → at ≡ level_end (view d h w₀).vars level → level_end (view d h w₀).vars level ≤ length (view d h w₀).vars.trail
-      → Undoing d h w₀ phase last at h w₀
-  undoing_begins level e g =
-      record {
-        rep = start;
-        levels = refl;
-        low = omega (arith, trail_length d h w₀ start);
-        high = omega arith;
-        size = refl;
-        view = sym (undone_none phase last h.assigned (view d h w₀) (sym (trail_length d h w₀ start)));
-      }
-
-  module _ (r : TrailHead) (w : List ℕ) (u : Undoing d h w₀ phase last at r w) where
-    pub undoing_lits : LitsOf d.vars (view d h w₀).vars.trail → LitsOf d.vars (view d r w).vars.trail
+  module _ (b : Assignment) (u : Undoing a phase last at b) where
+    pub undoing_lits : LitsOf (length a.vars.values) a.vars.trail → LitsOf (length b.vars.values) b.vars.trail
     unfolding undone_to
-    undoing_lits g =
-        rw u.view (lits-take d.vars r.assigned (view d h w₀).vars.trail (rw (trail_length d h w₀ start) u.high) g)
+    undoing_lits g = rw (u.vars, ap (λ (x : Assignment). x.vars.trail) u.is) (lits-take (length a.vars.values) (length b.vars.trail) a.vars.trail u.high g)
 
-    module _ (more : at < r.assigned) (r' : TrailHead) (w' : List ℕ) (k : Holds d r' w' (undone phase last (view d r w))) where
-      pub undoing_falls : r'.assigned ≡ r.assigned - 1
-      unfolding undone
-      undoing_falls =
-          let t = (view d r w).vars.trail in
-          holds_assigned k ∙ length-take-le (length t - 1) t (omega arith) ∙ rw (trail_length d r w u.rep)
+    pub undoing_falls : at < length b.vars.trail → length (undone phase last b).vars.trail ≡ length b.vars.trail - 1
+    unfolding undone
+    undoing_falls g = length-take-le (length b.vars.trail - 1) b.vars.trail (omega arith)
 
-      same_levels : r'.levels ≡ r.levels
-      unfolding undone
-      same_levels = holds_levels k ∙ limits-length d r w u.rep
+    pub undoing_turns : at < length b.vars.trail → Undoing a phase last at (undone phase last b)
+    unfolding undone
+    undoing_turns g =
+        let f : length (undone phase last b).vars.trail ≡ length b.vars.trail - 1 = undoing_falls g in
+        let e : length b.vars.trail ≡ suc (length b.vars.trail - 1) = omega arith in
+        record {
+          low = omega arith;
+          high = omega (arith, u.high);
+          vars = simp length-set u.vars;
+          is = ap (undone phase last) (u.is ∙ ap (λ (k : ℕ). undone_to phase last k a) e) ∙ undone_more phase last (length b.vars.trail - 1) a (omega (arith, u.high)) ∙ rw f;
+        }
 
-      pub undoing_turns : length w' ≡ length w → Undoing d h w₀ phase last at r' w'
-      undoing_turns l =
-          let f = undoing_falls in
-          let e : r.assigned ≡ suc r'.assigned = omega arith in
-          let b : r'.assigned < length (view d h w₀).vars.trail = rw (trail_length d h w₀ start) (omega (arith, u.high)) in
-          record {
-            rep = k.rep;
-            levels = same_levels ∙ u.levels;
-            low = omega arith;
-            high = omega (arith, u.high);
-            size = l ∙ u.size;
-            view = k.view ∙ ap (undone phase last) u.view ∙ rw e (undone_more phase last r'.assigned (view d h w₀) b);
-          }
+    same_limits : b.vars.limits ≡ a.vars.limits
+    unfolding undone_to
+    same_limits = ap (λ (x : Assignment). x.vars.limits) u.is
 
-    module _ (level : ℕ) (g : level < h.levels) where
-      cut_rep : Rep d (record { assigned = r.assigned; levels = level }) w
-      unfolding view
-      cut_rep =
-          record {
-            room = u.rep.room;
-            counts = record { assigned = u.rep.counts.assigned; levels = omega (arith, u.rep.counts.levels, u.levels) };
-            values = u.rep.values;
-          }
+    undoing_ends : (level : ℕ) → Undoable (length a.vars.values) a.vars level → length b.vars.trail ≤ at
+        → at ≡ level_end a.vars level → last ≡ level_end a.vars (decision_level a.vars - 1)
+        → with_limits b (take level b.vars.limits) ≡ until phase a level
+    unfolding undone_to
+    undoing_ends level x g e f =
+        let n : length b.vars.trail ≡ level_end a.vars level = omega (arith, u.low) in
+        let q : b ≡ undone_to phase last (level_end a.vars level) a = u.is ∙ ap (λ (k : ℕ). undone_to phase last k a) n in
+        ap (λ (y : Assignment). with_limits y (take level y.vars.limits)) q ∙ undone_until phase level last a x.ordered f
 
-      cut-view : view d (record { assigned = r.assigned; levels = level }) w ≡ with_limits (view d r w) (take level (view d r w).vars.limits)
-      unfolding view
-      cut-view =
-          let b : level ≤ r.levels = omega (arith, u.levels) in
-          rw (take-take level r.levels (get_or (split (shape d) w) 5 []) b)
-
-      cut_at : (k : ℕ) → r.assigned ≡ k
-          → with_limits (undone_to phase last r.assigned (view d h w₀)) (take level (undone_to phase last r.assigned (view d h w₀)).vars.limits)
-          ≡ with_limits (undone_to phase last k (view d h w₀)) (take level (view d h w₀).vars.limits)
-      unfolding undone_to
-      cut_at k q = rw q
-
-      pub undoing_ends : Undoable d.vars (view d h w₀).vars level → r.assigned ≤ at
-          → at ≡ level_end (view d h w₀).vars level → last ≡ level_end (view d h w₀).vars (h.levels - 1)
-          → Holds d (record { assigned = r.assigned; levels = level }) w (until phase (view d h w₀) level)
-      undoing_ends x b e f =
-          let n : r.assigned ≡ level_end (view d h w₀).vars level = omega (arith, u.low) in
-          let f' : last ≡ level_end (view d h w₀).vars (decision_level (view d h w₀).vars - 1) = rw (limits-length d h w₀ start) f in
-          record {
-            rep = cut_rep;
-            view =
-                cut-view
-                ∙ ap (λ (a : Assignment). with_limits a (take level a.vars.limits)) u.view
-                ∙ cut_at (level_end (view d h w₀).vars level) n
-                ∙ undone_until phase level last (view d h w₀) x.ordered f';
-          }
-
--- what the head counts after the way back
-pub after_until : {d : TrailSize} {h r : TrailHead} {w w' : List ℕ} (phase level : ℕ) → Rep d h w → level < h.levels → Undoable d.vars (view d h w).vars level
-    → Holds d r w' (until phase (view d h w) level) → Counted r (level_end (view d h w).vars level) level
-unfolding vars_until
-after_until {d} {h} {r} {w} {w'} phase level k g u x =
-    let b : level ≤ length (view d h w).vars.limits = rw (limits-length d h w k) (omega arith) in
-    record {
-      assigned = holds_assigned x ∙ length-take-le (level_end (view d h w).vars level) (view d h w).vars.trail u.within;
-      levels = holds_levels x ∙ length-take-le level (view d h w).vars.limits b;
-    }
+  -- the end, where the trail's fields t still count the levels that there were
+  pub undoing_cut : (t : Inside) → Kept t → Undoing a phase last at (shown t) → (level : ℕ) → level < decision_level a.vars
+      → Undoable (length a.vars.values) a.vars level → length (shown t).vars.trail ≤ at
+      → at ≡ level_end a.vars level → last ≡ level_end a.vars (decision_level a.vars - 1)
+      → with_limits (shown t) (take level t.limits.now) ≡ until phase a level
+  undoing_cut t k u level g x b e f =
+      let d : length (shown t).vars.limits ≡ t.depth = limits-length t k in
+      let n : length (shown t).vars.limits ≡ length a.vars.limits = ap (λ (y : List ℕ). length y) (same_limits (shown t) u) in
+      rw (take-take level t.depth t.limits.now (omega arith)) at (undoing_ends (shown t) u level x b e f)

@@ -1,17 +1,17 @@
--- Every cell of the block shows.
-use Rattle.std.specs.Prelude.{ℕ, ◌≡◌, List, ◌∷◌, [], length, get_or}
-use Rattle.std.proofs.Common.{sym, ap, ◌∙◌}
-use Rattle.region.specs.Split.{split, total}
-use Rattle.region.specs.Whole.{split_same}
-use Rattle.trail.specs.View.{Assignment, shape, view}
-use Rattle.trail.specs.declared.TrailSize.{TrailSize}
-use Rattle.trail.specs.declared.TrailHead.{TrailHead}
+-- Every cell of the slices shows.
+use Rattle.std.specs.Prelude.{ℕ, ◌≡◌, List, ◌∷◌, []}
+use Rattle.std.proofs.Common.{ap}
+use Rattle.trail.specs.View.{Assignment}
+use Rattle.trail.specs.Inside.{shown}
+use Rattle.trail.specs.declared.Trail.TheInside.{Inside}
 
--- the regions that an assignment shows
+-- the slices that an assignment shows
 abbrev regions : Assignment → List (List ℕ)
 regions a = a.vars.values ∷ a.vars.levels ∷ a.vars.reasons ∷ a.phases ∷ a.trail_cells ∷ a.limit_cells ∷ []
 
--- two slices of the block's length that show the same are the same
-pub all_shown : (d : TrailSize) (h : TrailHead) (w w' : List ℕ) → total (shape d) ≡ length w → length w ≡ length w' → view d h w ≡ view d h w' → w ≡ w'
-unfolding view
-all_shown d h w w' l l' e = split_same (shape d) w w' (sym l) (sym l' ∙ sym l) (ap regions e)
+abbrev slices : Inside → List (List ℕ)
+slices t = t.values.now ∷ t.levels.now ∷ t.reasons.now ∷ t.phases.now ∷ t.literals.now ∷ t.limits.now ∷ []
+
+-- two trails that show the same have the same in their slices
+pub all_shown : (t t' : Inside) → shown t ≡ shown t' → slices t ≡ slices t'
+all_shown t t' e = ap regions e

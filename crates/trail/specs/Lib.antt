@@ -1,5 +1,5 @@
 pub mod View
+pub mod Inside
 pub mod Laws
 pub mod Back
-pub mod Start
 pub mod Cells

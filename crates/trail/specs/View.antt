@@ -1,12 +1,9 @@
--- The assignment as the definition has it, and how a slice of cells holds it.
-use Rattle.std.specs.Prelude.{ℕ, zero, suc, ◌+◌, ◌-◌, ◌*◌, ◌≤◌, ◌<◌, max, ◌≡◌, Bool, true, false, List, [], ◌∷◌, ◌++◌, length, get_or, set, take, drop, replicate, ltb}
-use Rattle.region.specs.Split.{split, total, put}
+-- The assignment as the definition has it, with the phases, and what its functions do to it.
+use Rattle.std.specs.Prelude.{ℕ, zero, suc, ◌-◌, ◌*◌, ◌≤◌, ◌<◌, max, ◌≡◌, Bool, true, false, List, [], length, get_or, set, take, drop, ltb}
 use Rattle.model.specs.Limits.{max_variables}
-use Rattle.model.specs.Lit.{var, sign, l_undef, no_reason}
+use Rattle.model.specs.Lit.{var, sign, l_undef}
 use Rattle.model.specs.State.{VarState, initial_state, decision_level}
 use Rattle.model.specs.Trail.{unchecked_enqueue, new_decision_level, vars_until, unset, save, saved_part, level_end}
-use Rattle.trail.specs.declared.TrailSize.{TrailSize}
-use Rattle.trail.specs.declared.TrailHead.{TrailHead}
 
 -- the cells of the trail and of the limits are all there, those past the ends too
 pub record Assignment : Type 0 where
@@ -14,6 +11,16 @@ pub record Assignment : Type 0 where
   pub phases : List ℕ
   pub trail_cells : List ℕ
   pub limit_cells : List ℕ
+
+-- what the cells of n variables show before anything is set
+abbrev pub found : ℕ → List ℕ → Assignment
+found n w =
+    record {
+      vars = record { values = take n w; levels = take n (drop n w); reasons = take n (drop (2 * n) w); trail = []; limits = [] };
+      phases = take n (drop (3 * n) w);
+      trail_cells = take n (drop (4 * n) w);
+      limit_cells = take (3 * n) (drop (5 * n) w);
+    }
 
 -- n variables, none assigned; the cells of the trail and of the limits are as in a
 abbrev pub initial_assignment : ℕ → Assignment → Assignment
@@ -47,57 +54,28 @@ until phase a level =
       limit_cells = a.limit_cells;
     }
 
--- ---- the cells
-
--- values, levels, reasons, phases, trail, limits
-abbrev pub shape : TrailSize → List ℕ
-shape d = d.vars ∷ d.vars ∷ d.vars ∷ d.vars ∷ d.vars ∷ 3 * d.vars ∷ []
-
-abbrev pub pack : TrailHead → List (List ℕ) → Assignment
-pack h ps =
-    record {
-      vars =
-          record {
-            values = get_or ps 0 [];
-            levels = get_or ps 1 [];
-            reasons = get_or ps 2 [];
-            trail = take h.assigned (get_or ps 4 []);
-            limits = take h.levels (get_or ps 5 []);
-          };
-      phases = get_or ps 3 [];
-      trail_cells = get_or ps 4 [];
-      limit_cells = get_or ps 5 [];
-    }
-
-unfoldable pub view : TrailSize → TrailHead → List ℕ → Assignment
-view d h w = pack h (split (shape d) w)
-
--- the sizes fit a slice of n cells
-pub record Room (d : TrailSize) (n : ℕ) : Type 0 where
-  pub fits : total (shape d) ≤ n
-  pub vars : d.vars ≤ max_variables
-
-pub record Counts (d : TrailSize) (h : TrailHead) : Type 0 where
-  pub assigned : h.assigned ≤ d.vars
-  pub levels : h.levels ≤ 3 * d.vars
-
 -- each value is one of the three
 abbrev pub Values : List ℕ → Type 0
 Values xs = (v : ℕ) → get_or xs v 0 < 3
 
-pub record Rep (d : TrailSize) (h : TrailHead) (w : List ℕ) : Type 0 where
-  pub room : Room d (length w)
-  pub counts : Counts d h
-  pub values : Values (view d h w).vars.values
+-- what is true of every trail
+pub record Sound (a : Assignment) : Type 0 where
+  pub levels : length a.vars.levels ≡ length a.vars.values
+  pub reasons : length a.vars.reasons ≡ length a.vars.values
+  pub phases : length a.phases ≡ length a.vars.values
+  pub trail_cells : length a.trail_cells ≡ length a.vars.values
+  pub limit_cells : length a.limit_cells ≡ 3 * length a.vars.values
+  pub trail : a.vars.trail ≡ take (length a.vars.trail) a.trail_cells
+  pub limits : a.vars.limits ≡ take (length a.vars.limits) a.limit_cells
+  pub assigned : length a.vars.trail ≤ length a.vars.values
+  pub depth : length a.vars.limits ≤ 3 * length a.vars.values
+  pub vars : length a.vars.values ≤ max_variables
+  pub values : Values a.vars.values
 
-pub record Holds (d : TrailSize) (h : TrailHead) (w : List ℕ) (a : Assignment) : Type 0 where
-  pub rep : Rep d h w
-  pub view : view d h w ≡ a
-
--- what a head counts
-pub record Counted (h : TrailHead) (m n : ℕ) : Type 0 where
-  pub assigned : h.assigned ≡ m
-  pub levels : h.levels ≡ n
+-- how long the trail is, and how many levels there are
+pub record Counted (a : Assignment) (m n : ℕ) : Type 0 where
+  pub assigned : length a.vars.trail ≡ m
+  pub levels : decision_level a.vars ≡ n
 
 -- ---- the way back
 
@@ -162,20 +140,3 @@ undone_to phase last k a =
       trail_cells = a.trail_cells;
       limit_cells = a.limit_cells;
     }
-
--- ---- the start
-
--- the regions where variable v is as at the start
-abbrev pub cleared : ℕ → List (List ℕ) → List (List ℕ)
-cleared v ps = put (put (put (put ps 0 v l_undef) 1 v 0) 2 v no_reason) 3 v 1
-
--- the same of the first n variables
-abbrev pub filled : ℕ → List (List ℕ) → List (List ℕ)
-filled n ps =
-    (replicate n l_undef ++ drop n (get_or ps 0 []))
-    ∷ (replicate n 0 ++ drop n (get_or ps 1 []))
-    ∷ (replicate n no_reason ++ drop n (get_or ps 2 []))
-    ∷ (replicate n 1 ++ drop n (get_or ps 3 []))
-    ∷ get_or ps 4 []
-    ∷ get_or ps 5 []
-    ∷ []

@@ -1,134 +1,231 @@
-// The assignment: by variable its value, level, reason and phase, and the trail with where each level starts on it. It stands in a slice of its own.
+// The assignment: by variable its value, level, reason and phase, and the trail with where each level starts on it. Each has a slice of its own.
 #![tactic(auto)]
 
-ghost use Rattle.std.specs.Prelude.{◌≡◌, ◌*◌, ◌<◌, ◌≤◌, length, get_or};
-ghost use Rattle.region.specs.Split.{split};
-ghost use Rattle.model.specs.Lit.{var, value_lit};
-ghost use Rattle.trail.specs.View.{shape, Room, Rep, Holds, view, initial_assignment, enqueued, next_level, until, Undoable, LitsOf, saves, undone, cleared};
+ghost use Rattle.std.specs.Prelude.{◌≡◌, ◌+◌, ◌*◌, ◌<◌, ◌≤◌, length, get_or, Some, None};
+ghost use Rattle.model.specs.Limits.{max_variables};
+ghost use Rattle.model.specs.Lit.{var, value_lit, is_true, is_false};
+ghost use Rattle.model.specs.State.{decision_level};
+ghost use Rattle.clause.specs.Cells.{cell_of, reason_at, reason_cell};
+ghost use Rattle.trail.specs.View.{found, initial_assignment, enqueued, next_level, until, Undoable, LitsOf, Sound, saves, undone};
 
-use clause::{Lit, NO_REASON, UNDEF, Var, wide};
+use clause::{Lit, NO_REASON, UNDEF, Value, Var, reason_at, reason_cell};
+use std::marker::Model;
 
-// What never changes: how many variables there are.
-#[derive(Clone, Copy)]
-pub struct TrailSize {
-    pub vars: usize,
+// The first `assigned` of `literals` are the trail, and the first `depth` of `limits` have where on it each level starts.
+#[derive(Drop)]
+pub struct Trail<'a> {
+    values: &'a mut [u32],
+    levels: &'a mut [u32],
+    reasons: &'a mut [u32],
+    phases: &'a mut [u32],
+    literals: &'a mut [u32],
+    limits: &'a mut [u32],
+    assigned: usize,
+    depth: usize,
 }
 
-// What changes: the length of the trail, and the number of levels above level 0.
-#[derive(Clone, Copy)]
-pub struct TrailHead {
-    pub assigned: usize,
-    pub levels: usize,
+impl<'a> Model for Trail<'a> {
+    ghost use Rattle.trail.specs.View.{Assignment};
+
+    ghost Value = { Assignment };
+
+    ghost use Rattle.trail.specs.Inside.{shown, Kept};
+
+    ghost view = { shown };
+
+    ghost invariant = { Kept };
 }
 
-// A variable's value: 0 true, 1 false, 2 unset.
-pub fn value(d: TrailSize, h: TrailHead, s: &[u32], v: Var) -> u32
-    requires rep { Rep d h s.now }
-    requires v_lt_vars { v.0 < d.vars }
-    ensures { result ≡ get_or (view d h s.now).vars.values v.0 0 }
-{
-    let i = v.0 as usize;
-    s[i]
-}
-
-// A literal's value.
-pub fn value_lit(d: TrailSize, h: TrailHead, s: &[u32], p: Lit) -> u32
-    requires rep { Rep d h s.now }
-    requires p_bound { var p.0 < d.vars }
-    ensures { result ≡ value_lit (view d h s.now).vars.values p.0 }
-{
-    let x = value(d, h, s, p.var());
-    p.value(x)
-}
-
-// The level of a variable's last assignment.
-pub fn level(d: TrailSize, h: TrailHead, s: &[u32], v: Var) -> usize
-    requires rep { Rep d h s.now }
-    requires v_lt_vars { v.0 < d.vars }
-    ensures { result ≡ get_or (view d h s.now).vars.levels v.0 0 }
-{
-    let n = d.vars;
-    let i = v.0 as usize;
-    wide(s[n + i])
-}
-
-// The clause that forced a variable's last assignment.
-pub fn reason(d: TrailSize, h: TrailHead, s: &[u32], v: Var) -> u32
-    requires rep { Rep d h s.now }
-    requires v_lt_vars { v.0 < d.vars }
-    ensures { result ≡ get_or (view d h s.now).vars.reasons v.0 0 }
-{
-    let n = d.vars;
-    let i = v.0 as usize;
-    s[2 * n + i]
-}
-
-// The sign of a variable's next decision.
-pub fn phase(d: TrailSize, h: TrailHead, s: &[u32], v: Var) -> u32
-    requires rep { Rep d h s.now }
-    requires v_lt_vars { v.0 < d.vars }
-    ensures { result ≡ get_or (view d h s.now).phases v.0 0 }
-{
-    let n = d.vars;
-    let i = v.0 as usize;
-    s[3 * n + i]
-}
-
-// The literal at place i of the trail.
-pub fn trail_at(d: TrailSize, h: TrailHead, s: &[u32], i: usize) -> Lit
-    requires rep { Rep d h s.now }
-    requires i_lt_assigned { i < h.assigned }
-    ensures { result.0 ≡ get_or (view d h s.now).vars.trail i 0 }
-{
-    let n = d.vars;
-    Lit(s[4 * n + i])
-}
-
-// Where on the trail level k + 1 starts.
-pub fn limit_at(d: TrailSize, h: TrailHead, s: &[u32], k: usize) -> usize
-    requires rep { Rep d h s.now }
-    requires k_lt_levels { k < h.levels }
-    ensures { result ≡ get_or (view d h s.now).vars.limits k 0 }
-{
-    let n = d.vars;
-    wide(s[5 * n + k])
-}
-
-// The literal p becomes true on the present level, by the clause `from`.
-pub fn unchecked_enqueue(d: TrailSize, h: TrailHead, s: &mut [u32], p: Lit, from: u32) -> TrailHead
-    requires rep { Rep d h s.old }
-    requires p_bound { (var p.0 < d.vars) × (h.assigned < d.vars) }
-    ensures { Holds d result s.new (enqueued (view d h s.old) p.0 from) }
-{
-    let n = d.vars;
-    let t = h.assigned;
-    let k = h.levels;
-    let v = wide(p.var().0);
-    let sign = p.sign();
-    let reasons = 2 * n;
-    s[v] = sign;
-    s[n + v] = k as u32;
-    s[reasons + v] = from;
-    s[4 * n + t] = p.0;
-    TrailHead {
-        assigned: t + 1,
-        levels: k,
+impl<'a> Trail<'a> {
+    // The start: nothing is assigned, whatever stood in the cells.
+    #[tactic(auto, unfolding(model::specs::State::initial_state))]
+    pub fn new(cells: &'a mut [u32], vars: usize) -> Trail<'a>
+        requires room { 8 * vars ≤ length cells.old }
+        requires vars { vars ≤ max_variables }
+        ensures { result ≡ initial_assignment vars (found vars cells.old) }
+    {
+        let (values, rest) = cells.split_at_mut(vars);
+        let (levels, rest) = rest.split_at_mut(vars);
+        let (reasons, rest) = rest.split_at_mut(vars);
+        let (phases, rest) = rest.split_at_mut(vars);
+        let (literals, rest) = rest.split_at_mut(vars);
+        let (limits, _) = rest.split_at_mut(3 * vars);
+        values.fill(UNDEF);
+        levels.fill(0);
+        reasons.fill(NO_REASON);
+        phases.fill(1);
+        Trail {
+            values,
+            levels,
+            reasons,
+            phases,
+            literals,
+            limits,
+            assigned: 0,
+            depth: 0,
+        }
     }
-}
 
-// Opens a decision level.
-pub fn new_decision_level(d: TrailSize, h: TrailHead, s: &mut [u32]) -> TrailHead
-    requires rep { Rep d h s.old }
-    requires levels_bound { h.levels < 3 * d.vars }
-    ensures { Holds d result s.new (next_level (view d h s.old)) }
-{
-    let n = d.vars;
-    let t = h.assigned;
-    let k = h.levels;
-    s[5 * n + k] = t as u32;
-    TrailHead {
-        assigned: t,
-        levels: k + 1,
+    // What is true of every trail, for a caller's proof.
+    pub fn sound(&self)
+        ensures { Sound self.now }
+    {
+        let _ = &self.values;
+    }
+
+    // How many variables there are.
+    pub fn vars(&self) -> usize
+        ensures { result ≡ length self.now.vars.values }
+    {
+        self.values.len()
+    }
+
+    pub fn value(&self, v: Var) -> Value
+        requires { v.0 < length self.now.vars.values }
+        ensures { cell_of result ≡ get_or self.now.vars.values v.0 0 }
+    {
+        Value::from(self.values[v.0 as usize])
+    }
+
+    pub fn lit_value(&self, p: Lit) -> Value
+        requires { var p.0 < length self.now.vars.values }
+        ensures { cell_of result ≡ value_lit self.now.vars.values p.0 }
+    {
+        p.value(self.value(p.var()))
+    }
+
+    // One comparison on the cell, since propagation asks this most.
+    pub fn is_true(&self, p: Lit) -> bool
+        requires { var p.0 < length self.now.vars.values }
+        ensures { result ≡ is_true self.now.vars.values p.0 }
+    {
+        self.values[p.var().0 as usize] == p.sign()
+    }
+
+    // Likewise.
+    pub fn is_false(&self, p: Lit) -> bool
+        requires { var p.0 < length self.now.vars.values }
+        ensures { result ≡ is_false self.now.vars.values p.0 }
+    {
+        self.values[p.var().0 as usize] + p.sign() == 1
+    }
+
+    // The level of a variable's last assignment.
+    pub fn level(&self, v: Var) -> usize
+        requires { v.0 < length self.now.vars.values }
+        ensures { result ≡ get_or self.now.vars.levels v.0 0 }
+    {
+        self.levels[v.0 as usize] as usize
+    }
+
+    // The clause that forced a variable's last assignment.
+    pub fn reason(&self, v: Var) -> Option<usize>
+        requires { v.0 < length self.now.vars.values }
+        ensures { result ≡ reason_at (get_or self.now.vars.reasons v.0 0) }
+    {
+        reason_at(self.reasons[v.0 as usize])
+    }
+
+    // The sign of a variable's next decision.
+    pub fn phase(&self, v: Var) -> u32
+        requires { v.0 < length self.now.vars.values }
+        ensures { result ≡ get_or self.now.phases v.0 0 }
+    {
+        self.phases[v.0 as usize]
+    }
+
+    // The literal at place i of the trail.
+    pub fn at(&self, i: usize) -> Lit
+        requires { i < length self.now.vars.trail }
+        ensures { result.0 ≡ get_or self.now.vars.trail i 0 }
+    {
+        let literals = &self.literals;
+        Lit(literals[i])
+    }
+
+    // Where on the trail level k + 1 starts.
+    pub fn limit(&self, k: usize) -> usize
+        requires { k < decision_level self.now.vars }
+        ensures { result ≡ get_or self.now.vars.limits k 0 }
+    {
+        let limits = &self.limits;
+        limits[k] as usize
+    }
+
+    // The cells of the values, by variable.
+    pub fn values(&self) -> &[u32]
+        ensures { result.now ≡ self.now.vars.values }
+    {
+        self.values
+    }
+
+    pub fn assigned(&self) -> usize
+        ensures { result ≡ length self.now.vars.trail }
+    {
+        self.assigned
+    }
+
+    pub fn decision_level(&self) -> usize
+        ensures { result ≡ decision_level self.now.vars }
+    {
+        self.depth
+    }
+
+    // The literal p becomes true on the present level, by the clause `from`.
+    #[tactic(auto, unfolding(model::specs::Trail::unchecked_enqueue))]
+    pub fn enqueue(&mut self, p: Lit, from: Option<usize>)
+        requires var { var p.0 < length self.old.vars.values }
+        requires room { length self.old.vars.trail < length self.old.vars.values }
+        requires from { reason_cell from < 4294967296 }
+        ensures { self.new ≡ enqueued self.old p.0 (reason_cell from) }
+    {
+        let v = p.var().0 as usize;
+        self.values[v] = p.sign();
+        self.levels[v] = self.depth as u32;
+        self.reasons[v] = reason_cell(from);
+        self.literals[self.assigned] = p.0;
+        self.assigned += 1;
+    }
+
+    // Opens a decision level.
+    #[tactic(auto, unfolding(model::specs::Trail::new_decision_level))]
+    pub fn new_decision_level(&mut self)
+        requires { length self.old.vars.limits < 3 * length self.old.vars.values }
+        ensures { self.new ≡ next_level self.old }
+    {
+        self.limits[self.depth] = self.assigned as u32;
+        self.depth += 1;
+    }
+
+    // Takes back the last literal of the trail.
+    #[tactic(auto, unfolding(crate::specs::View::undone))]
+    fn undo_last(&mut self, phase: u32, last: usize)
+        requires lits { LitsOf (length self.old.vars.values) self.old.vars.trail }
+        requires assigned { 0 < length self.old.vars.trail }
+        ensures { self.new ≡ undone phase last self.old }
+    {
+        self.assigned -= 1;
+        let p = Lit(self.literals[self.assigned]);
+        let v = p.var().0 as usize;
+        self.values[v] = UNDEF;
+        if saves_phase(phase, last, self.assigned) {
+            self.phases[v] = p.sign();
+        }
+    }
+
+    // Back to a level: what stands above it is unset, and the phases are saved as `phase` says.
+    pub fn cancel_until(&mut self, level: usize, phase: u32)
+        requires level { level < decision_level self.old.vars }
+        requires undoable { Undoable (length self.old.vars.values) self.old.vars level }
+        ensures { self.new ≡ until phase self.old level }
+    {
+        let at = self.limit(level);
+        let top = self.depth - 1;
+        let last = self.limit(top);
+        while at < self.assigned {
+            self.undo_last(phase, last);
+        }
+        self.depth = level;
     }
 }
 
@@ -136,87 +233,9 @@ pub fn new_decision_level(d: TrailSize, h: TrailHead, s: &mut [u32]) -> TrailHea
 fn saves_phase(phase: u32, last: usize, c: usize) -> bool
     ensures { result ≡ saves phase last c }
 {
-    if phase == 0 {
-        return false;
-    }
-    if phase == 1 {
-        return last < c;
-    }
-    true
-}
-
-// Takes back the last literal of the trail.
-fn undo_last(d: TrailSize, h: TrailHead, s: &mut [u32], phase: u32, last: usize) -> TrailHead
-    requires rep { Rep d h s.old }
-    requires lits_of { LitsOf d.vars (view d h s.old).vars.trail }
-    requires assigned_nonzero { 0 < h.assigned }
-    ensures { Holds d result s.new (undone phase last (view d h s.old)) }
-{
-    let n = d.vars;
-    let k = h.levels;
-    let c = h.assigned - 1;
-    let p = Lit(s[4 * n + c]);
-    let v = wide(p.var().0);
-    let sign = p.sign();
-    let save = saves_phase(phase, last, c);
-    s[v] = UNDEF;
-    if save {
-        s[3 * n + v] = sign;
-    }
-    TrailHead {
-        assigned: c,
-        levels: k,
-    }
-}
-
-// Back to a level: what stands above it is unset, and the phases are saved as `phase` says.
-pub fn cancel_until(
-    d: TrailSize,
-    h: TrailHead,
-    s: &mut [u32],
-    level: usize,
-    phase: u32,
-) -> TrailHead
-    requires rep { Rep d h s.old }
-    requires level_lt_levels { level < h.levels }
-    requires undoable { Undoable d.vars (view d h s.old).vars level }
-    ensures { Holds d result s.new (until phase (view d h s.old) level) }
-{
-    let top = h.levels - 1;
-    let at = limit_at(d, h, s, level);
-    let last = limit_at(d, h, s, top);
-    let mut r = h;
-    while at < r.assigned {
-        r = undo_last(d, r, s, phase, last);
-    }
-    r.levels = level;
-    r
-}
-
-// Variable v is as at the start.
-fn clear_var(d: TrailSize, s: &mut [u32], v: usize)
-    requires room { Room d (length s.old) }
-    requires v_lt_vars { v < d.vars }
-    ensures { split (shape d) s.new ≡ cleared v (split (shape d) s.old) }
-{
-    let n = d.vars;
-    s[v] = UNDEF;
-    s[n + v] = 0;
-    s[2 * n + v] = NO_REASON;
-    s[3 * n + v] = 1;
-}
-
-// The start: nothing is assigned, whatever stood in the slice.
-pub fn fill(d: TrailSize, s: &mut [u32]) -> TrailHead
-    requires { Room d (length s.old) }
-    ensures { Holds d result s.new (initial_assignment d.vars (view d result s.old)) }
-{
-    let n = d.vars;
-    for v in 0..n {
-        clear_var(d, s, v);
-    }
-    TrailHead {
-        assigned: 0,
-        levels: 0,
+    match phase {
+        0 => false,
+        1 => last < c,
+        _ => true,
     }
 }

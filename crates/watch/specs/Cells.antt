@@ -1,58 +1,78 @@
--- Reading and setting a cell of each kind; and every cell shows.
-use Rattle.std.specs.Prelude.{ℕ, ◌+◌, ◌*◌, ◌≤◌, ◌<◌, ◌≡◌, refl, List, [], length, set}
-use native.Mathlib.Omega.{arith}
-use Rattle.std.proofs.Math.Path.{sym, ap}
-use Rattle.std.proofs.Common.{ap₂, ◌∙◌}
-use Rattle.std.proofs.Math.ListN.{get_or, length-set}
-use Rattle.region.specs.Split.{total}
-use Rattle.watch.specs.Stride.{column, column-length, column_get, column-set, column_other, columns_same}
-use Rattle.watch.specs.View.{shape, records, Room, Cells, Watches, cells, view, with_link, with_note, Laid}
-use Rattle.watch.specs.declared.Lists.{Lists}
+-- Records of two cells: reading and setting a cell of each kind.
+use Rattle.std.specs.Prelude.{ℕ, zero, suc, ◌*◌, ◌≤◌, ◌<◌, ◌≡◌, refl, List, [], ◌∷◌, length, get_or, set, take, drop, map}
+use Rattle.std.specs.Simd.{first_chunks}
+use Rattle.std.proofs.Common.{arith, sym, not-suc-le-zero, ap, ◌∙◌, length-drop, length-take-le}
+use Rattle.std.proofs.Math.Decide.{ℕ_discrete}
+use Rattle.std.proofs.Math.ListN.{length-map, length-set}
+use Rattle.std.proofs.Math.Seq.{get_or-set_same, get_or-set_other, map-set_same}
+use Rattle.std.proofs.lemmas.List.{map-set, get_or-map}
+use Rattle.watch.specs.View.{Cells, Paired, cells_of, with_link, with_note}
+
+-- ---- a slice's records
+
+pub length-first_chunks : (m : ℕ) (w : List ℕ) → length (first_chunks 2 m w) ≡ m
+length-first_chunks zero w = refl
+length-first_chunks (suc m) w = ap suc (length-first_chunks m (drop 2 w))
+
+pub take-first_chunks : (k m : ℕ) (w : List ℕ) → k ≤ m → take k (first_chunks 2 m w) ≡ first_chunks 2 k w
+take-first_chunks zero m w h = refl
+take-first_chunks (suc k) zero w h = absurd (not-suc-le-zero h)
+take-first_chunks (suc k) (suc m) w h = ap (λ (r : List (List ℕ)). take 2 w ∷ r) (take-first_chunks k m (drop 2 w) (omega arith))
+
+pub chunks_paired : (m : ℕ) (w : List ℕ) → 2 * m ≤ length w → Paired (first_chunks 2 m w)
+chunks_paired zero w h x g = absurd (not-suc-le-zero g)
+chunks_paired (suc m) w h zero g = length-take-le 2 w (omega arith)
+chunks_paired (suc m) w h (suc x) g = chunks_paired m (drop 2 w) (omega (arith, length-drop 2 w)) x (omega arith)
+
+-- ---- their cells
 
 same_cells : {ls ls' ns ns' : List ℕ} → ls ≡ ls' → ns ≡ ns' → ◌≡◌ {A = Cells} (record { links = ls; notes = ns }) (record { links = ls'; notes = ns' })
 same_cells el en = rw (el, en)
 
-module _ (d : Lists) (w : List ℕ) where
-  pub links_length : length (cells d w).links ≡ records d
-  unfolding cells
-  links_length = column-length 2 0 (records d) w
+module _ (w : List (List ℕ)) where
+  pub links_length : length (cells_of w).links ≡ length w
+  unfolding cells_of
+  links_length = length-map w (λ r. get_or r 0 0)
 
-  pub notes_length : length (cells d w).notes ≡ records d
-  unfolding cells
-  notes_length = column-length 2 1 (records d) w
+  pub notes_length : length (cells_of w).notes ≡ length w
+  unfolding cells_of
+  notes_length = length-map w (λ r. get_or r 1 0)
 
-  module _ (r : Room d (length w)) (x : ℕ) (h : x < records d) where
-    fits : 2 * records d ≤ length w
-    fits = omega (arith, r.fits)
+  -- a record of the cells is one of the slice
+  pub link_low : (c : Cells) → cells_of w ≡ c → (x : ℕ) → x < length c.links → x < length w
+  link_low c e x h = omega (arith, links_length, ap (λ (c : Cells). length c.links) e)
 
-    pub link_get : get_or w (2 * x) 0 ≡ get_or (cells d w).links x 0
-    unfolding cells
-    link_get = ap (λ i. get_or w i 0) (omega arith) ∙ sym (column_get 2 0 (records d) w x h)
+  pub note_low : (c : Cells) → cells_of w ≡ c → (x : ℕ) → x < length c.notes → x < length w
+  note_low c e x h = omega (arith, notes_length, ap (λ (c : Cells). length c.notes) e)
 
-    pub note_get : get_or w (2 * x + 1) 0 ≡ get_or (cells d w).notes x 0
-    unfolding cells
-    note_get = sym (column_get 2 1 (records d) w x h)
+  module _ (x : ℕ) (h : x < length w) where
+    pub link_get : get_or (get_or w x []) 0 0 ≡ get_or (cells_of w).links x 0
+    unfolding cells_of
+    link_get = sym (get_or-map (λ r. get_or r 0 0) w x [] 0 h)
 
-    pub link_set : (v : ℕ) → Laid d (set w (2 * x) v) (with_link x v (cells d w))
-    unfolding cells
-    link_set v =
-        let at : 2 * x ≡ 2 * x + 0 = omega arith in
-        record {
-          room = rw length-set r;
-          cells = ap (λ i. record { links = column 2 0 (records d) (set w i v); notes = column 2 1 (records d) (set w i v) }) at
-              ∙ same_cells (column-set 2 (records d) w x 0 v (omega arith) h fits) (column_other 2 (records d) w x 0 v (omega arith) 1 (omega arith) (omega arith));
-        }
+    pub note_get : get_or (get_or w x []) 1 0 ≡ get_or (cells_of w).notes x 0
+    unfolding cells_of
+    note_get = sym (get_or-map (λ r. get_or r 1 0) w x [] 0 h)
 
-    pub note_set : (v : ℕ) → Laid d (set w (2 * x + 1) v) (with_note x v (cells d w))
-    unfolding cells
-    note_set v =
-        record {
-          room = rw length-set r;
-          cells = same_cells (column_other 2 (records d) w x 1 v (omega arith) 0 (omega arith) (omega arith)) (column-set 2 (records d) w x 1 v (omega arith) h fits);
-        }
+    module _ (p : Paired w) (i v : ℕ) where
+      pub set_paired : Paired (set w x (set (get_or w x []) i v))
+      set_paired y g = go (ℕ_discrete y x)
+        where
+          go : Dec (y ≡ x) → length (get_or (set w x (set (get_or w x []) i v)) y []) ≡ 2
+          go (yes e) = rw (e, get_or-set_same w x (set (get_or w x []) i v) [] h, length-set) (p x h)
+          go (no e) = rw (get_or-set_other w x y (set (get_or w x []) i v) [] e) (p y (rw length-set at g))
 
--- two slices of the block's length that show the same are the same
-pub all_shown : (d : Lists) (w w' : List ℕ) → total (shape d) ≡ length w → length w ≡ length w' → view d w ≡ view d w' → w ≡ w'
-unfolding view cells
-all_shown d w w' l l' e =
-    columns_same (records d) w w' (omega arith) (omega arith) (ap (λ (s : Watches). s.cells.links) e) (ap (λ (s : Watches). s.cells.notes) e)
+    module _ (p : Paired w) (v : ℕ) where
+      pub link_set : cells_of (set w x (set (get_or w x []) 0 v)) ≡ with_link x v (cells_of w)
+      unfolding cells_of
+      link_set =
+          let r = get_or w x [] in
+          same_cells (map-set (λ r. get_or r 0 0) w x (set r 0 v) ∙ ap (set (map (λ r. get_or r 0 0) w) x) (get_or-set_same r 0 v 0 (rw (p x h) (omega arith))))
+          (map-set_same (λ r. get_or r 1 0) w x (set r 0 v) [] (get_or-set_other r 0 1 v 0 (omega arith)))
+
+      pub note_set : cells_of (set w x (set (get_or w x []) 1 v)) ≡ with_note x v (cells_of w)
+      unfolding cells_of
+      note_set =
+          let r = get_or w x [] in
+          same_cells (map-set_same (λ r. get_or r 0 0) w x (set r 1 v) [] (get_or-set_other r 1 0 v 0 (omega arith)))
+          (map-set (λ r. get_or r 1 0) w x (set r 1 v) ∙ ap (set (map (λ r. get_or r 1 0) w) x) (get_or-set_same r 1 v 0 (rw (p x h) (omega arith))))

@@ -1,6 +1,6 @@
 -- A list by its links: the link a names the first node, the link b the second, and each node's own link the node two places on, until the link e.
 use Rattle.std.specs.Prelude.{ℕ, zero, suc, ◌≤◌, ◌<◌, ◌≢◌, ◌≡◌, refl, true, false, List, [], ◌∷◌, length, get_or, eqb}
-use Rattle.std.proofs.Common.{arith, not-suc-le-zero, sym, ap, ◌∙◌, eq-eqb, ne_eqb}
+use Rattle.std.proofs.Common.{arith, not-suc-le-zero, ap, ◌∙◌, eq-eqb, ne_eqb}
 
 -- at most n nodes
 unfoldable pub follow : List ℕ → ℕ → ℕ → ℕ → ℕ → List ℕ

@@ -1,6 +1,6 @@
--- Lists whose nodes stand apart: what is known of a node, and what stays when one comes or goes.
-use Rattle.std.specs.Prelude.{ℕ, zero, suc, ◌+◌, ◌≤◌, ◌<◌, Bool, true, false, ◌≡◌, refl, ◌≢◌, List, [], ◌∷◌, ◌++◌, length, get_or, set, eqb, leb}
-use Rattle.std.proofs.Common.{arith, not-suc-le-zero, sym, ap, eq-eqb, ne_eqb, eqb-true, leb-false}
+-- Watches whose nodes stand apart: what is known of a node, and what stays when one comes or goes.
+use Rattle.std.specs.Prelude.{ℕ, zero, suc, ◌+◌, ◌≤◌, ◌<◌, Bool, ◌≡◌, refl, ◌≢◌, List, [], ◌∷◌, ◌++◌, length, get_or, set, eqb, leb}
+use Rattle.std.proofs.Common.{arith, not-suc-le-zero, sym, ap, eq-eqb, ne_eqb, leb-false}
 use Rattle.std.proofs.Math.Decide.{ℕ_discrete}
 use Rattle.std.proofs.lemmas.Bool.{lt-leb}
 use Rattle.region.specs.Table.{sum_of, sum-set, sum_get, sum_two}

@@ -1,8 +1,8 @@
-pub mod Stride
 pub mod Count
 pub mod Follow
 pub mod View
 pub mod Cells
+pub mod Sizes
 pub mod Laws
 pub mod Threads
 pub mod Stores

@@ -1,5 +1,5 @@
 -- The watch lists as the definition has them, and what each function does to those.
-use Rattle.std.specs.Prelude.{ℕ, zero, suc, ◌*◌, ◌/◌, ◌≤◌, ◌<◌, ◌≡◌, ◌≢◌, length, take, drop, replicate, eqb}
+use Rattle.std.specs.Prelude.{ℕ, zero, suc, ◌*◌, ◌/◌, ◌≤◌, ◌<◌, ◌≡◌, ◌≢◌, length, replicate, eqb}
 use Rattle.std.proofs.Common.{arith, not-suc-le-zero, ap₂, ◌∙◌, get_or-set_same, get_or-set_other}
 use Rattle.std.proofs.Math.Path.{refl, sym, ap}
 use mathlib.Core.List.{List, [], ◌∷◌, ◌++◌, map, map-append}
@@ -7,11 +7,12 @@ use Rattle.std.proofs.Math.ListN
 use Rattle.std.proofs.Math.ListN.{get_or, set, length-map, length-set}
 use Rattle.std.proofs.Math.Seq.{set-get_or, set-set}
 use Rattle.std.proofs.lemmas.Bool.{lt-leb}
+use Rattle.std.proofs.lemmas.List.{map-set, take-map, drop-map, get_or-map}
 use Rattle.region.specs.Table.{sum_get, sum-set}
 use Rattle.model.specs.State.{Watch}
 use Rattle.model.specs.Store.{push_watch}
 use Rattle.watch.specs.Count.{bit, occ, over, same_bit, occ_at, not_here}
-use Rattle.watch.specs.View.{Watches, list_of, without, Apart, Under, Free, appended, unlinked, moved, blocked, emptied}
+use Rattle.watch.specs.View.{Watches, list_of, without, Apart, Under, Free, appended, unlinked, moved, blocked}
 use Rattle.watch.specs.Laws.{fresh, free_without}
 
 -- node x with the blockers bs
@@ -24,32 +25,9 @@ as_list bs xs = map (as_watch bs) xs
 unfoldable pub as_watches : Watches → List (List Watch)
 as_watches s = map (as_list s.blockers) s.lists
 
--- ---- maps
-
-module _ {A B : Type 0} (f : A → B) where
-  map-set : (xs : List A) (i : ℕ) (v : A) → map f (set xs i v) ≡ set (map f xs) i (f v)
-  map-set [] i v = refl
-  map-set (x ∷ xs) zero v = refl
-  map-set (x ∷ xs) (suc i) v = ap (λ (r : List B). f x ∷ r) (map-set xs i v)
-
-  pub map-take : (n : ℕ) (xs : List A) → map f (take n xs) ≡ take n (map f xs)
-  map-take zero xs = refl
-  map-take (suc n) [] = refl
-  map-take (suc n) (x ∷ xs) = ap (λ (r : List B). f x ∷ r) (map-take n xs)
-
-  pub map-drop : (n : ℕ) (xs : List A) → map f (drop n xs) ≡ drop n (map f xs)
-  map-drop zero xs = refl
-  map-drop (suc n) [] = refl
-  map-drop (suc n) (x ∷ xs) = map-drop n xs
-
-  get_or-map : (xs : List A) (i : ℕ) (d : A) (e : B) → i < length xs → get_or (map f xs) i e ≡ f (get_or xs i d)
-  get_or-map [] i d e h = absurd (not-suc-le-zero h)
-  get_or-map (x ∷ xs) zero d e h = refl
-  get_or-map (x ∷ xs) (suc i) d e h = get_or-map xs i d e (omega arith)
-
-  map-replicate : (n : ℕ) (a : A) → map f (replicate n a) ≡ replicate n (f a)
-  map-replicate zero a = refl
-  map-replicate (suc n) a = ap (λ (r : List B). f a ∷ r) (map-replicate n a)
+map-replicate : {A B : Type 0} (f : A → B) (n : ℕ) (a : A) → map f (replicate n a) ≡ replicate n (f a)
+map-replicate f zero a = refl
+map-replicate f (suc n) a = ap (λ r. f a ∷ r) (map-replicate f n a)
 
 -- ---- reading
 
@@ -110,7 +88,7 @@ unfolding as_watches unlinked
 as_unlinked l i s =
     let f = as_watch s.blockers in
     map-set (as_list s.blockers) s.lists l (without i (list_of s l))
-    ∙ rw (ListN.get_or-map (as_list s.blockers) s.lists l [], map-append, map-take f, map-drop f)
+    ∙ rw (ListN.get_or-map (as_list s.blockers) s.lists l [], map-append, take-map f, drop-map f)
 
 -- a move is an unlinking and an append
 pub moved_is : (l i m b : ℕ) (s : Watches) → l ≢ m → moved l i m b s ≡ appended m (get_or (list_of s l) i 0) b (unlinked l i s)
@@ -141,9 +119,10 @@ module _ (l i : ℕ) (s : Watches) (apart : Apart s.lists) (hl : l < length s.li
       ∙ map-set (as_list (set bs x b)) (set ls l []) l xs
       ∙ rw (lists_frame bs x b (set ls l []) free, map-set (as_list bs) ls l [], set-set, list_blocked bs x b xs i once hi refl hx, ListN.get_or-map (as_list bs) ls l [])
 
-pub as_emptied : (n : ℕ) (s : Watches) → as_watches (emptied n s) ≡ replicate n []
-unfolding as_watches emptied
-as_emptied n s = map-replicate (as_list s.blockers) n []
+-- n lists, all empty
+pub as_emptied : (n : ℕ) (s : Watches) → s.lists ≡ replicate n [] → as_watches s ≡ replicate n []
+unfolding as_watches
+as_emptied n s e = rw e (map-replicate (as_list s.blockers) n [])
 
 -- ---- nodes in use
 

@@ -8,13 +8,13 @@ use Rattle.std.proofs.lemmas.List.{get_or_at}
 use Rattle.region.specs.Table.{tabulate_is}
 use Rattle.watch.specs.Count.{occ, occ_at}
 use Rattle.watch.specs.Follow.{follow_is}
-use Rattle.watch.specs.View.{Cells, names, without, with_link, with_note, cut_last, cut_inner, cells_appended, Free, Chains, records, chain, chains, Thread, Linked}
+use Rattle.watch.specs.View.{Cells, names, without, with_note, cut_last, cut_inner, cells_appended, Free, Chains, records, chain, chains, Thread, Linked, Room}
 use Rattle.watch.specs.Laws.{length_without, without_before, without_after, one_place, node_below, list_once, not_other, list_small, chains-append, chains-without}
-use Rattle.watch.specs.declared.Lists.{Lists}
+use Rattle.watch.specs.declared.Size.{Size}
 
 -- ---- each link has its own record
 
-module _ (d : Lists) (ls : List (List ℕ)) (n : length ls ≡ d.slots) (k : Chains d.nodes ls) where
+module _ (d : Size) (ls : List (List ℕ)) (n : length ls ≡ d.slots) (k : Chains d.nodes ls) where
   pub node_low : (l i : ℕ) → l < d.slots → i < length (get_or ls l []) → get_or (get_or ls l []) i 0 < d.nodes
   node_low l i hl hi = node_below d.nodes ls k.under l i (rw n hl) hi
 
@@ -53,7 +53,7 @@ module _ (d : Lists) (ls : List (List ℕ)) (n : length ls ≡ d.slots) (k : Cha
 
 -- ---- the lists by their links
 
-pub lists_are : (d : Lists) (c : Cells) (ls : List (List ℕ)) → Linked d c ls → chains d c ≡ ls
+pub lists_are : (d : Size) (c : Cells) (ls : List (List ℕ)) → Linked d c ls → chains d c ≡ ls
 lists_are d c ls k =
     tabulate_is d.slots (chain d c) ls [] k.count (λ l h.
     let t = k.threads l h in
@@ -66,11 +66,7 @@ lists_are d c ls k =
 
 -- ---- list l changes, in the cells c
 
-pub record Sized (d : Lists) (c : Cells) : Type 0 where
-  pub links : length c.links ≡ records d
-  pub notes : length c.notes ≡ records d
-
-module _ (d : Lists) (c : Cells) (ls : List (List ℕ)) (k : Linked d c ls) (z : Sized d c) (l : ℕ) (hl : l < d.slots) where
+module _ (d : Size) (c : Cells) (ls : List (List ℕ)) (k : Linked d c ls) (z : Room d c) (l : ℕ) (hl : l < d.slots) where
   abbrev xs : List ℕ
   xs = get_or ls l []
 

@@ -1,18 +1,24 @@
--- Watch lists: for each literal the nodes of its list in order, and for each node its blocker. How the slice holds them.
-use Rattle.std.specs.Prelude.{ℕ, suc, ◌+◌, ◌*◌, ◌≤◌, ◌<◌, ◌≡◌, List, [], ◌∷◌, ◌++◌, true, false, eqb, length, get_or, set, take, drop, replicate}
+-- Watch lists: for each literal the nodes of its list in order, and for each node its blocker. How the cells hold them.
+use Rattle.std.specs.Prelude.{ℕ, suc, ◌+◌, ◌*◌, ◌≤◌, ◌<◌, ◌≡◌, List, [], ◌∷◌, ◌++◌, true, false, eqb, length, get_or, set, take, drop, replicate, map}
+use Rattle.std.specs.Simd.{first_chunks}
 use Rattle.model.specs.Limits.{max_variables, max_clauses}
 use Rattle.model.specs.Lit.{neg}
-use Rattle.region.specs.Split.{total}
 use Rattle.region.specs.Table.{tabulate, sum_of}
-use Rattle.watch.specs.Stride.{column}
 use Rattle.watch.specs.Count.{occ, over}
 use Rattle.watch.specs.Follow.{follow}
-use Rattle.watch.specs.declared.Lists.{Lists}
+use Rattle.watch.specs.declared.Size.{Size}
 
 -- the cells of the block, by records of two: a link, and a note, which is a node's blocker or an end of a list
 pub record Cells : Type 0 where
   pub links : List ℕ
   pub notes : List ℕ
+
+-- records of two cells
+abbrev pub Paired : List (List ℕ) → Type 0
+Paired w = (x : ℕ) → x < length w → length (get_or w x []) ≡ 2
+
+unfoldable pub cells_of : List (List ℕ) → Cells
+cells_of w = record { links = map (λ r. get_or r 0 0) w; notes = map (λ r. get_or r 1 0) w }
 
 -- one cell set
 abbrev pub with_link : ℕ → ℕ → Cells → Cells
@@ -126,39 +132,22 @@ pub record Chains (m : ℕ) (ls : List (List ℕ)) : Type 0 where
   pub apart : Apart ls
   pub under : Under m ls
 
--- ---- the slice
+-- ---- the lists that the cells hold
 
--- the regions: two cells for each node, and two records for each list
-abbrev pub shape : Lists → List ℕ
-shape d = (2 * d.nodes) ∷ (4 * d.slots) ∷ []
-
-abbrev pub records : Lists → ℕ
+abbrev pub records : Size → ℕ
 records d = d.nodes + 2 * d.slots
 
-pub record Room (d : Lists) (n : ℕ) : Type 0 where
-  pub fits : total (shape d) ≤ n
-  pub slots : d.slots ≤ 2 * max_variables
-  pub nodes : d.nodes ≤ 2 * max_clauses
-
-unfoldable pub cells : Lists → List ℕ → Cells
-cells d w = record { links = column 2 0 (records d) w; notes = column 2 1 (records d) w }
-
--- the slice has room, and these cells
-pub record Laid (d : Lists) (w : List ℕ) (c : Cells) : Type 0 where
-  pub room : Room d (length w)
-  pub cells : cells d w ≡ c
-
-abbrev pub chain : Lists → Cells → ℕ → List ℕ
+abbrev pub chain : Size → Cells → ℕ → List ℕ
 chain d c l = follow c.links d.nodes (get_or c.notes (d.nodes + 2 * l) 0) (d.nodes + 2 * l) (d.nodes + 2 * l + 1)
 
-abbrev pub chains : Lists → Cells → List (List ℕ)
+abbrev pub chains : Size → Cells → List (List ℕ)
 chains d c = tabulate d.slots (chain d c)
 
-abbrev pub pack : Lists → Cells → List (List ℕ) → Watches
+abbrev pub pack : Size → Cells → List (List ℕ) → Watches
 pack d c ls = record { lists = ls; blockers = take d.nodes c.notes; cells = c }
 
-unfoldable pub view : Lists → List ℕ → Watches
-view d w = pack d (cells d w) (chains d (cells d w))
+unfoldable pub shown : Size → Cells → Watches
+shown d c = pack d c (chains d c)
 
 -- list l is xs: its links name its nodes in turn, and its two records have the links behind its end
 pub record Thread (n : ℕ) (c : Cells) (l : ℕ) (xs : List ℕ) : Type 0 where
@@ -167,17 +156,38 @@ pub record Thread (n : ℕ) (c : Cells) (l : ℕ) (xs : List ℕ) : Type 0 where
   pub behind : get_or c.notes (n + 2 * l + 1) 0 ≡ get_or (names n l xs) (suc (length xs)) 0
 
 -- the cells hold the lists ls
-pub record Linked (d : Lists) (c : Cells) (ls : List (List ℕ)) : Type 0 where
+pub record Linked (d : Size) (c : Cells) (ls : List (List ℕ)) : Type 0 where
   pub count : length ls ≡ d.slots
   pub threads : (l : ℕ) → l < d.slots → Thread d.nodes c l (get_or ls l [])
   pub chains : Chains d.nodes ls
 
--- the slice is laid out as watch lists
-pub record Rep (d : Lists) (w : List ℕ) : Type 0 where
-  pub room : Room d (length w)
-  pub linked : Linked d (cells d w) (chains d (cells d w))
+-- a record for each node, and two for each list
+pub record Room (d : Size) (c : Cells) : Type 0 where
+  pub slots : d.slots ≤ 2 * max_variables
+  pub nodes : d.nodes ≤ 2 * max_clauses
+  pub links : length c.links ≡ records d
+  pub notes : length c.notes ≡ records d
 
--- the slice holds the watch lists s
-pub record Holds (d : Lists) (w : List ℕ) (s : Watches) : Type 0 where
-  pub rep : Rep d w
-  pub view : view d w ≡ s
+-- the cells are laid out as watch lists
+pub record Rep (d : Size) (c : Cells) : Type 0 where
+  pub room : Room d c
+  pub linked : Linked d c (chains d c)
+
+-- the cells hold the watch lists s
+pub record Holds (d : Size) (c : Cells) (s : Watches) : Type 0 where
+  pub rep : Rep d c
+  pub view : shown d c ≡ s
+
+-- what a slice shows before its lists are made
+abbrev pub found : ℕ → ℕ → List ℕ → Watches
+found m n w = shown (record { slots = m; nodes = n }) (cells_of (first_chunks 2 (n + 2 * m) w))
+
+-- what every value keeps: the cells hold its lists and blockers
+pub record Sound (s : Watches) : Type 0 where
+  pub lists : length s.lists ≤ 2 * max_variables
+  pub blockers : length s.blockers ≤ 2 * max_clauses
+  pub links : length s.cells.links ≡ length s.blockers + 2 * length s.lists
+  pub notes : length s.cells.notes ≡ length s.blockers + 2 * length s.lists
+  pub nodes : take (length s.blockers) s.cells.notes ≡ s.blockers
+  pub threads : (l : ℕ) → l < length s.lists → Thread (length s.blockers) s.cells l (list_of s l)
+  pub chains : Chains (length s.blockers) s.lists

@@ -4,20 +4,34 @@
 // literal's two records have as second cells the two links behind the list's end, which name no node.
 #![tactic(auto)]
 
-ghost use Rattle.std.specs.Prelude.{◌≡◌, ◌+◌, ◌*◌, ◌≤◌, ◌<◌, length, get_or, ltb};
+ghost use Rattle.std.specs.Prelude.{◌≡◌, ◌+◌, ◌*◌, ◌≤◌, ◌<◌, [], length, get_or, ltb, replicate};
 ghost use Rattle.model.specs.Limits.{max_variables, max_clauses};
 ghost use Rattle.model.specs.Lit.{neg};
-ghost use Rattle.watch.specs.View.{Room, Laid, records, cells, with_link, with_note};
-ghost use Rattle.watch.specs.View.{Rep, Holds, view, list_of, Free, Under, appended, attached, unlinked, blocked, emptied};
+ghost use Rattle.watch.specs.View.{Sound, found, list_of, Free, Under, appended, attached, unlinked, blocked, emptied};
 ghost use Rattle.watch.specs.Walk.{Stands, Gone};
 
+mod table;
+
 use clause::Lit;
+use std::marker::Model;
+use table::Table;
 
 // How many lists, two for each variable, and how many nodes, two for each clause that can be stored.
 #[derive(Clone, Copy)]
-pub struct Lists {
-    pub slots: usize,
-    pub nodes: usize,
+struct Size {
+    slots: usize,
+    nodes: usize,
+}
+
+impl Size {
+    // The first of the two records of l.
+    fn home(self, l: Lit) -> usize
+        requires bounds { (self.slots ≤ 2 * max_variables) × (self.nodes ≤ 2 * max_clauses) }
+        requires l_lt_slots { l.0 < self.slots }
+        ensures { result ≡ self.nodes + 2 * l.0 }
+    {
+        self.nodes + 2 * l.0 as usize
+    }
 }
 
 // A place on a walk through a list: the record whose link names the node there, the record of the next link, and how many nodes have been passed that stayed.
@@ -29,198 +43,173 @@ pub struct Cursor {
     pub passed: usize,
 }
 
-// The link of a record.
-fn link(d: Lists, s: &[u32], x: usize) -> u32
-    requires room { Room d (length s.now) }
-    requires x_bound { x < records d }
-    ensures { result ≡ get_or (cells d s.now).links x 0 }
-{
-    s[2 * x]
+// The watch lists: contracts see for each literal the nodes of its list in order, and for each node its blocker.
+#[derive(Drop)]
+pub struct Watches<'a> {
+    table: Table<'a>,
+    size: Size,
 }
 
-// The second cell of a record: a node's blocker, a literal's end.
-fn note(d: Lists, s: &[u32], x: usize) -> u32
-    requires room { Room d (length s.now) }
-    requires x_bound { x < records d }
-    ensures { result ≡ get_or (cells d s.now).notes x 0 }
-{
-    s[2 * x + 1]
+impl<'a> Model for Watches<'a> {
+    ghost use Rattle.watch.specs.View.{Watches, Rep, shown};
+
+    ghost Value = { Watches };
+
+    ghost view = { λ s. shown s.size s.table };
+
+    ghost invariant = { λ s. Rep s.size s.table };
 }
 
-fn put_link(d: Lists, s: &mut [u32], x: usize, v: u32)
-    requires room { Room d (length s.old) }
-    requires x_bound { x < records d }
-    ensures { Laid d s.new (with_link x v (cells d s.old)) }
-{
-    s[2 * x] = v;
-}
-
-fn put_note(d: Lists, s: &mut [u32], x: usize, v: u32)
-    requires room { Room d (length s.old) }
-    requires x_bound { x < records d }
-    ensures { Laid d s.new (with_note x v (cells d s.old)) }
-{
-    s[2 * x + 1] = v;
-}
-
-// The first of the two records of l.
-fn home(d: Lists, l: Lit) -> usize
-    requires slots_bound { (d.slots ≤ 2 * max_variables) × (d.nodes ≤ 2 * max_clauses) }
-    requires l_lt_slots { l.0 < d.slots }
-    ensures { result ≡ d.nodes + 2 * l.0 }
-{
-    let p = l.0 as usize;
-    d.nodes + 2 * p
-}
-
-pub fn blocker(d: Lists, s: &[u32], x: usize) -> Lit
-    requires rep { Rep d s.now }
-    requires x_lt_nodes { x < d.nodes }
-    ensures { result.0 ≡ get_or (view d s.now).blockers x 0 }
-{
-    Lit(note(d, s, x))
-}
-
-pub fn set_blocker(d: Lists, s: &mut [u32], x: usize, b: Lit)
-    requires rep { Rep d s.old }
-    requires x_lt_nodes { x < d.nodes }
-    ensures { Holds d s.new (blocked x b.0 (view d s.old)) }
-{
-    put_note(d, s, x, b.0);
-}
-
-// A node that is in no list goes to the end of the list of l, with the blocker b.
-pub fn append(d: Lists, s: &mut [u32], l: Lit, x: usize, b: Lit)
-    requires rep { Rep d s.old }
-    requires l_lt_slots { (l.0 < d.slots) × (x < d.nodes) }
-    requires free { Free x (view d s.old).lists }
-    ensures { Holds d s.new (appended l.0 x b.0 (view d s.old)) }
-{
-    let e = home(d, l);
-    let y = x as u32;
-    let t = note(d, s, e);
-    let u = note(d, s, e + 1);
-    put_note(d, s, x, b.0);
-    put_note(d, s, e, u);
-    put_note(d, s, e + 1, y);
-    put_link(d, s, t as usize, y);
-}
-
-// The first two literals p and q of a new clause are watched, each with the other as blocker.
-pub fn attach(d: Lists, s: &mut [u32], c: usize, p: Lit, q: Lit)
-    requires rep { Rep d s.old }
-    requires p_bound { (neg p.0 < d.slots) × (neg q.0 < d.slots) × (2 * c + 1 < d.nodes) }
-    requires under { Under (2 * c) (view d s.old).lists }
-    ensures { Holds d s.new (attached c p.0 q.0 (view d s.old)) }
-{
-    let l = p.negate();
-    let m = q.negate();
-    append(d, s, l, 2 * c, q);
-    append(d, s, m, 2 * c + 1, p);
-}
-
-// The node x at the cursor leaves the list of l. Where it is the last, the list ends at the cursor; else the cursor's two links go past it, and where it is
-// the last but one, the second of these is the first behind the end.
-fn unlink(d: Lists, s: &mut [u32], l: Lit, c: Cursor, x: usize)
-    requires rep { Rep d s.old }
-    requires l_lt_slots { l.0 < d.slots }
-    requires stands { Stands d l.0 c (list_of (view d s.old) l.0) × (c.passed < length (list_of (view d s.old) l.0)) }
-    requires x_value { x ≡ get_or (list_of (view d s.old) l.0) c.passed 0 }
-    ensures { Holds d s.new (unlinked l.0 c.passed (view d s.old)) }
-{
-    let e = home(d, l);
-    let a = c.at;
-    let b = c.after;
-    let t = note(d, s, e) as usize;
-    let u = note(d, s, e + 1) as usize;
-    if u == x {
-        put_note(d, s, e, a as u32);
-        put_note(d, s, e + 1, b as u32);
-        return;
+impl<'a> Watches<'a> {
+    // All lists empty, whatever the cells held.
+    pub fn new(cells: &'a mut [u32], slots: usize, nodes: usize) -> Watches<'a>
+        requires fits { 2 * nodes + 4 * slots ≤ length cells.old }
+        requires bounds { (slots ≤ 2 * max_variables) × (nodes ≤ 2 * max_clauses) }
+        ensures value { result ≡ emptied slots (found slots nodes cells.old) }
+        ensures lists { result.lists ≡ replicate slots [] }
+        ensures blockers { length result.blockers ≡ nodes }
+    {
+        let size = Size { slots, nodes };
+        let end = nodes + 2 * slots;
+        let mut table = Table::new(cells, end);
+        for x in nodes..end {
+            table.set_note(x, x as u32);
+        }
+        Watches { table, size }
     }
-    let y = link(d, s, b);
-    let z = link(d, s, x);
-    put_link(d, s, a, y);
-    put_link(d, s, b, z);
-    if t == x {
-        put_note(d, s, e, b as u32);
+
+    // What every value keeps. It does nothing when it runs.
+    pub fn sound(&self)
+        ensures { Sound self.now }
+    {
+        let _size = &self.size;
     }
-}
 
-// All lists empty, whatever the block held.
-pub fn start(d: Lists, s: &mut [u32])
-    requires { Room d (length s.old) }
-    ensures { Holds d s.new (emptied d.slots (view d s.old)) }
-{
-    let n = d.nodes;
-    let e = n + 2 * d.slots;
-    let mut x = n;
-    while x < e {
-        put_note(d, s, x, x as u32);
-        x += 1;
+    pub fn blocker(&self, x: usize) -> Lit
+        requires { x < length self.now.blockers }
+        ensures { result.0 ≡ get_or self.now.blockers x 0 }
+    {
+        Lit(self.table.note(x))
     }
-}
 
-// The cursor at the start of the list of l.
-pub fn walk(d: Lists, s: &[u32], l: Lit) -> Cursor
-    requires rep { Rep d s.now }
-    requires l_lt_slots { l.0 < d.slots }
-    ensures { Stands d l.0 result (list_of (view d s.now) l.0) × (result.passed ≡ 0) }
-{
-    let e = home(d, l);
-    Cursor {
-        at: e,
-        after: e + 1,
-        passed: 0,
+    pub fn set_blocker(&mut self, x: usize, b: Lit)
+        requires { x < length self.old.blockers }
+        ensures { self.new ≡ blocked x b.0 self.old }
+    {
+        self.table.set_note(x, b.0);
     }
-}
 
-// Whether the cursor is at a node, and not at the list's end.
-pub fn more(d: Lists, s: &[u32], l: Lit, c: Cursor) -> bool
-    requires rep { Rep d s.now }
-    requires l_lt_slots { l.0 < d.slots }
-    requires stands { Stands d l.0 c (list_of (view d s.now) l.0) }
-    ensures { result ≡ ltb c.passed (length (list_of (view d s.now) l.0)) }
-{
-    let e = home(d, l);
-    let t = note(d, s, e) as usize;
-    c.at != t
-}
-
-// The node at the cursor.
-pub fn node(d: Lists, s: &[u32], l: Lit, c: Cursor) -> usize
-    requires rep { Rep d s.now }
-    requires l_lt_slots { l.0 < d.slots }
-    requires stands { Stands d l.0 c (list_of (view d s.now) l.0) × (c.passed < length (list_of (view d s.now) l.0)) }
-    ensures { (result ≡ get_or (list_of (view d s.now) l.0) c.passed 0) × (result < d.nodes) }
-{
-    let a = c.at;
-    link(d, s, a) as usize
-}
-
-// The node x at the cursor stays: on to the next.
-pub fn stay(d: Lists, s: &[u32], l: Lit, c: Cursor, x: usize) -> Cursor
-    requires rep { Rep d s.now }
-    requires l_lt_slots { l.0 < d.slots }
-    requires stands { Stands d l.0 c (list_of (view d s.now) l.0) × (c.passed < length (list_of (view d s.now) l.0)) }
-    requires x_value { x ≡ get_or (list_of (view d s.now) l.0) c.passed 0 }
-    ensures { Stands d l.0 result (list_of (view d s.now) l.0) × (result.passed ≡ c.passed + 1) }
-{
-    Cursor {
-        at: c.after,
-        after: x,
-        passed: c.passed + 1,
+    // A node that is in no list goes to the end of the list of l, with the blocker b.
+    pub fn append(&mut self, l: Lit, x: usize, b: Lit)
+        requires bounds { (l.0 < length self.old.lists) × (x < length self.old.blockers) }
+        requires free { Free x self.old.lists }
+        ensures { self.new ≡ appended l.0 x b.0 self.old }
+    {
+        let e = self.size.home(l);
+        let y = x as u32;
+        let t = self.table.note(e);
+        let u = self.table.note(e + 1);
+        self.table.set_note(x, b.0);
+        self.table.set_note(e, u);
+        self.table.set_note(e + 1, y);
+        self.table.set_link(t as usize, y);
     }
-}
 
-// The node x at the cursor goes to the end of the list of m, with the blocker b. The cursor is at the next as it is.
-pub fn leave(d: Lists, s: &mut [u32], l: Lit, c: Cursor, x: usize, m: Lit, b: Lit)
-    requires rep { Rep d s.old }
-    requires l_lt_slots { (l.0 < d.slots) × (m.0 < d.slots) × (l.0 ≡ m.0 → ⊥) }
-    requires stands { Stands d l.0 c (list_of (view d s.old) l.0) × (c.passed < length (list_of (view d s.old) l.0)) }
-    requires x_value { x ≡ get_or (list_of (view d s.old) l.0) c.passed 0 }
-    ensures { Gone d s.new l.0 m.0 b.0 (view d s.old) c }
-{
-    unlink(d, s, l, c, x);
-    append(d, s, m, x, b);
+    // The first two literals p and q of a new clause are watched, each with the other as blocker.
+    pub fn attach(&mut self, c: usize, p: Lit, q: Lit)
+        requires bounds { (neg p.0 < length self.old.lists) × (neg q.0 < length self.old.lists) × (2 * c + 1 < length self.old.blockers) }
+        requires under { Under (2 * c) self.old.lists }
+        ensures { self.new ≡ attached c p.0 q.0 self.old }
+    {
+        self.sound();
+        let x = 2 * c;
+        self.append(p.negate(), x, q);
+        self.append(q.negate(), x + 1, p);
+    }
+
+    // The node x at the cursor leaves the list of l. Where it is the last, the list ends at the cursor; else the cursor's two links go past it, and where it is
+    // the last but one, the second of these is the first behind the end.
+    fn unlink(&mut self, l: Lit, c: Cursor, x: usize)
+        requires l_bound { l.0 < length self.old.lists }
+        requires stands { Stands (length self.old.blockers) l.0 c (list_of self.old l.0) × (c.passed < length (list_of self.old l.0)) }
+        requires x_value { x ≡ get_or (list_of self.old l.0) c.passed 0 }
+        ensures { self.new ≡ unlinked l.0 c.passed self.old }
+    {
+        let e = self.size.home(l);
+        let a = c.at;
+        let b = c.after;
+        let t = self.table.note(e) as usize;
+        let u = self.table.note(e + 1) as usize;
+        if u == x {
+            self.table.set_note(e, a as u32);
+            self.table.set_note(e + 1, b as u32);
+            return;
+        }
+        let y = self.table.link(b);
+        let z = self.table.link(x);
+        self.table.set_link(a, y);
+        self.table.set_link(b, z);
+        if t == x {
+            self.table.set_note(e, b as u32);
+        }
+    }
+
+    // The cursor at the start of the list of l.
+    pub fn walk(&self, l: Lit) -> Cursor
+        requires { l.0 < length self.now.lists }
+        ensures { Stands (length self.now.blockers) l.0 result (list_of self.now l.0) × (result.passed ≡ 0) }
+    {
+        let e = self.size.home(l);
+        Cursor {
+            at: e,
+            after: e + 1,
+            passed: 0,
+        }
+    }
+
+    // Whether the cursor is at a node, and not at the list's end.
+    pub fn more(&self, l: Lit, c: Cursor) -> bool
+        requires l_bound { l.0 < length self.now.lists }
+        requires stands { Stands (length self.now.blockers) l.0 c (list_of self.now l.0) }
+        ensures { result ≡ ltb c.passed (length (list_of self.now l.0)) }
+    {
+        let e = self.size.home(l);
+        c.at != self.table.note(e) as usize
+    }
+
+    // The node at the cursor.
+    pub fn node(&self, l: Lit, c: Cursor) -> usize
+        requires l_bound { l.0 < length self.now.lists }
+        requires stands { Stands (length self.now.blockers) l.0 c (list_of self.now l.0) × (c.passed < length (list_of self.now l.0)) }
+        ensures { (result ≡ get_or (list_of self.now l.0) c.passed 0) × (result < length self.now.blockers) }
+    {
+        self.table.link(c.at) as usize
+    }
+
+    // The node x at the cursor stays: on to the next.
+    pub fn stay(&self, l: Lit, c: Cursor, x: usize) -> Cursor
+        requires l_bound { l.0 < length self.now.lists }
+        requires stands { Stands (length self.now.blockers) l.0 c (list_of self.now l.0) × (c.passed < length (list_of self.now l.0)) }
+        requires x_value { x ≡ get_or (list_of self.now l.0) c.passed 0 }
+        ensures { Stands (length self.now.blockers) l.0 result (list_of self.now l.0) × (result.passed ≡ c.passed + 1) }
+    {
+        self.sound();
+        Cursor {
+            at: c.after,
+            after: x,
+            passed: c.passed + 1,
+        }
+    }
+
+    // The node x at the cursor goes to the end of the list of m, with the blocker b. The cursor is at the next as it is.
+    pub fn leave(&mut self, l: Lit, c: Cursor, x: usize, m: Lit, b: Lit)
+        requires lists { (l.0 < length self.old.lists) × (m.0 < length self.old.lists) × (l.0 ≡ m.0 → ⊥) }
+        requires stands { Stands (length self.old.blockers) l.0 c (list_of self.old l.0) × (c.passed < length (list_of self.old l.0)) }
+        requires x_value { x ≡ get_or (list_of self.old l.0) c.passed 0 }
+        ensures { Gone self.new l.0 m.0 b.0 self.old c }
+    {
+        self.sound();
+        self.unlink(l, c, x);
+        self.append(m, x, b);
+    }
 }

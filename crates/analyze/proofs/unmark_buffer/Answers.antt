@@ -1,52 +1,19 @@
-use Prim.Native.Nat.{◌-◌}
-use native.Mathlib.Omega.{arith}
-use mathlib.Core.Path.{refl, ◌∙◌}
-use Rattle.analyze.specs.Unmarking.{unmarking_starts, unmarking_var, unmarking_turns, unmarking_ends}
+use Rattle.std.proofs.Common.{◌≡◌, ◌<◌, get_or, length, arith, ap, ◌∙◌}
+use Rattle.model.specs.Lit.{var}
+use Rattle.analyze.specs.Second.{place-lit}
+use Rattle.analyze.specs.Unmarking.{marks_lits, left_less, left_none}
 use Rattle.analyze.proofs.unmark_buffer.Goals as goal
 
-pub loop-i-init : goal.loop-i-init
-loop-i-init c =
-    let a = c.args in
-    let p = c.requires in
-    (unmarking_starts a.g.sizes a.h a.work.now a.n p.rep p.n_bound p.marks_of, omega arith, refl)
-
-pub buffer_at-p-requires : goal.buffer_at-p-requires
-buffer_at-p-requires c = record { rep = c.loop-i.invariant.0.held.rep; k_bound = omega (arith, c.loop-i-test.true, c.requires.n_bound) }
-
-pub set_mark-requires : goal.set_mark-requires
-set_mark-requires c =
-    let a = c.args in
-    let p = c.requires in
-    let l = c.loop-i in
-    record {
-      rep = l.invariant.0.held.rep;
-      v_lt_vars = rw (c.var.ensures, c.buffer_at-p.ensures)
-          (unmarking_var a.g.sizes a.h a.work.now a.n p.rep p.n_bound p.marks_of l.i l.work l.invariant.0 l.invariant.1 c.loop-i-test.true);
-    }
-
-pub overflow_add-i : goal.overflow_add-i
-overflow_add-i c = omega (arith, c.loop-i-test.true, c.requires.n_bound, c.requires.rep.room.vars)
-
-pub loop-i-smaller : goal.loop-i-smaller
-loop-i-smaller c = omega (arith, c.loop-i-test.true)
+pub unset-requires : goal.unset-requires
+unset-requires c =
+    let b = c.args.buffer.now.items in
+    let g : c.loop-i.i < length b = omega arith in
+    omega (arith, c.loop-i.invariant.sized, ap var c.at.ensures, place-lit _ b c.loop-i.i (marks_lits _ _ _ c.requires) (omega arith) g)
 
 pub loop-i-preserved : goal.loop-i-preserved
 loop-i-preserved c =
-    let a = c.args in
-    let p = c.requires in
-    let l = c.loop-i in (
-      unmarking_turns a.g.sizes a.h a.work.now a.n p.rep p.n_bound p.marks_of l.i l.work l.invariant.0 l.invariant.1 c.loop-i-test.true _
-          (rw (c.var.ensures, c.buffer_at-p.ensures) at c.set_mark.ensures),
-      omega (arith, l.invariant.1),
-      c.set_mark.auto.work ∙ l.invariant.2,
-    )
-
-pub shape_of-work : goal.shape_of-work
-shape_of-work c = c.loop-i.invariant.2
+    let v : c.var.result.0 ≡ var (get_or c.args.buffer.now.items c.loop-i.i 0) = c.var.ensures ∙ ap var c.at.ensures in
+    rw (c.unset.ensures, v) (left_less _ _ _ _ c.loop-i.invariant (omega arith))
 
 pub returns : goal.returns
-returns c =
-    let a = c.args in
-    let p = c.requires in
-    let l = c.loop-i in
-    unmarking_ends a.g.sizes a.h a.work.now a.n p.rep p.n_bound p.marks_of l.i l.work l.invariant.0 (omega arith)
+returns c = left_none _ _ _ _ c.loop-i.invariant (omega arith)

@@ -23,6 +23,6 @@ returns c =
     let a = c.args in
     let n = length a.body.now in (
       c.put.ensures
-          ∙ subst (λ (x : ℕ). paste (set (set (set a.out.now a.at (tag_of the_type a.verdict)) (a.at + 1) a.conflicts) (a.at + 2) n) (a.at + 3) a.body.now n ≡ paste a.out.now a.at (cells x a.conflicts a.body.now) (3 + n)) (tagged a.verdict) (paste_solve a.out.now a.at (tag_of the_type a.verdict) a.conflicts a.body.now (omega arith)),
+          ∙ subst (λ (x : ℕ). paste (set (set (set a.out.now 0 (tag_of the_type a.verdict)) 1 a.conflicts) 2 n) 3 a.body.now n ≡ paste a.out.now 0 (cells x a.conflicts a.body.now) (3 + n)) (tagged a.verdict) (paste_solve a.out.now (tag_of the_type a.verdict) a.conflicts a.body.now (omega arith)),
       refl,
     )

@@ -1,43 +1,39 @@
-use Rattle.intake.specs.Adding.{taken-closed, sorted_low, simplified_idle, taken_dropped, kept_takeable, taken_kept}
+use Rattle.intake.specs.Adding.{adds_closed, sorted_simplifiable, adds_dropped, left_takeable, adds_left}
 use Rattle.intake.proofs.add_clause.Goals as goal
 
-pub returns-then-not-ok : goal.returns-then-not-ok
-returns-then-not-ok c =
-    let s = c in
-    let whole = taken-closed c.args.g c.args.h c.args.work.now c.requires.still c.requires.work_value c.args.part.now c.requires.every c.requires.part_len_bound (c.if-not-ok.true) in
-    record { has = whole.0; answer_value = whole.1 }
+pub returns-then-not-s-clause-has : goal.returns-then-not-s-clause-has
+returns-then-not-s-clause-has c =
+    (adds_closed c.args.s.now c.requires.still c.requires.level c.args.part.now c.requires.literals c.if-not-s.true).has
 
-pub sort_in-requires : goal.sort_in-requires
-sort_in-requires c =
-    let s = c in
-    record { rep = c.requires.still.rep; part_len_bound = c.requires.part_len_bound }
+pub returns-then-not-s-clause-answer : goal.returns-then-not-s-clause-answer
+returns-then-not-s-clause-answer c =
+    (adds_closed c.args.s.now c.requires.still c.requires.level c.args.part.now c.requires.literals c.if-not-s.true).answer
 
-pub simplify-k-requires : goal.simplify-k-requires
-simplify-k-requires c =
-    let s = c in
-    let f = c.sort_in.ensures in
-    record { rep = f.but.rep; n_bound = c.requires.part_len_bound; by_index = sorted_low c.args.g c.args.h c.args.work.now c.requires.still c.requires.work_value c.args.part.now c.requires.every c.requires.part_len_bound f }
+pub simplify-requires : goal.simplify-requires
+simplify-requires c =
+    sorted_simplifiable c.args.s.now c.requires.still c.requires.level c.args.part.now c.requires.literals c.sort_in.ensures
 
-pub returns-in_default : goal.returns-in_default
-returns-in_default c =
-    let s = c in
-    let f = c.sort_in.ensures in
-    let k = c.simplify-k.ensures in
-    let whole = taken_dropped c.args.g c.args.h c.args.work.now c.requires.still c.requires.work_value c.args.part.now c.requires.every c.requires.part_len_bound f (c.if-not-ok.false) k c.in_default.is in
-    record { has = whole.0; answer_value = whole.1 }
+pub returns-then-not-simplify-clause-has : goal.returns-then-not-simplify-clause-has
+returns-then-not-simplify-clause-has c =
+    (adds_dropped c.args.s.now c.requires.still c.requires.level c.args.part.now c.requires.literals c.sort_in.ensures c.if-not-s.false c.simplify.ensures
+    c.if-not-simplify.true).has
+
+pub returns-then-not-simplify-clause-answer : goal.returns-then-not-simplify-clause-answer
+returns-then-not-simplify-clause-answer c =
+    (adds_dropped c.args.s.now c.requires.still c.requires.level c.args.part.now c.requires.literals c.sort_in.ensures c.if-not-s.false c.simplify.ensures
+    c.if-not-simplify.true).answer
 
 pub take_kept-requires : goal.take_kept-requires
 take_kept-requires c =
-    let s = c in
-    let f = c.sort_in.ensures in
-    let k = c.simplify-k.ensures in
-    let o = c.if-not-ok.false in
-    record { rep = k.but.rep; idle = simplified_idle c.args.g c.args.h c.args.work.now c.requires.still c.requires.work_value c.args.part.now c.requires.every c.requires.part_len_bound f o k; takeable = kept_takeable c.args.g c.args.h c.args.work.now c.requires.still c.requires.work_value c.args.part.now c.requires.every c.requires.part_len_bound f o k _ c.in-Some.is }
+    left_takeable c.args.s.now c.requires.still c.requires.level c.args.part.now c.requires.literals c.sort_in.ensures c.if-not-s.false c.simplify.ensures
+    c.if-not-simplify.false
 
-pub returns : goal.returns
-returns c =
-    let s = c in
-    let f = c.sort_in.ensures in
-    let k = c.simplify-k.ensures in
-    let whole = taken_kept c.args.g c.args.h c.args.work.now c.requires.still c.requires.work_value c.args.part.now c.requires.every c.requires.part_len_bound f (c.if-not-ok.false) k _ c.in-Some.is c.take_kept.ensures in
-    record { has = whole.0; answer_value = whole.1 }
+pub returns-clause-has : goal.returns-clause-has
+returns-clause-has c =
+    (adds_left c.args.s.now c.requires.still c.requires.level c.args.part.now c.requires.literals c.sort_in.ensures c.if-not-s.false c.simplify.ensures
+    c.if-not-simplify.false c.take_kept.ensures).has
+
+pub returns-clause-answer : goal.returns-clause-answer
+returns-clause-answer c =
+    (adds_left c.args.s.now c.requires.still c.requires.level c.args.part.now c.requires.literals c.sort_in.ensures c.if-not-s.false c.simplify.ensures
+    c.if-not-simplify.false c.take_kept.ensures).answer

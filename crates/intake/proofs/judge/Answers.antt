@@ -1,53 +1,52 @@
-use native.Mathlib.Omega.{arith}
-use Rattle.intake.specs.Simplifying.{turned_true, turned_opposite, turned_false, turned_again, turned_keep}
+use Rattle.std.proofs.Common.{sym, refl, ◌≡◌, ◌∙◌, ℕ, true, false, eqb, eqb-true}
+use Rattle.std.proofs.lemmas.Bool.{eqb-false}
+use denote.Enum.Bare.{sameb}
+use Rattle.clause.specs.declared.Value.{Value}
+use Rattle.clause.specs.contracts.Value.{the_type}
+use Rattle.clause.specs.Cells.{cell_of}
+use Rattle.intake.specs.Simplifying.{turned_true, turned_opposite, turned_false, turned_again, turned_stays}
 use Rattle.intake.proofs.judge.Goals as goal
+use Rattle.intake.proofs.judge.Goals.{then-eq-via-then-eq, then-eq-via-else-eq+then-eq-2, then-eq-3-via-then-eq-3, then-eq-3-via-else-eq-3+then-eq-4}
 
-pub returns-then-v-eq-TRUE : goal.returns-then-v-eq-TRUE
-returns-then-v-eq-TRUE c =
-    let s = c in
-    let b = c.buffer_at-l in
-    let v = c.value-v in
-    let m = c.negate-opposite in
-    turned_true c.args.d c.args.h c.args.work.now c.requires.rep c.args.i c.args.f b.result v.result m.result.0 b.ensures v.ensures m.ensures c.if-v-eq-TRUE.true
+-- values are the same where their cells are
+same_cell : (v w : Value) → sameb the_type v w ≡ eqb (cell_of v) (cell_of w)
+same_cell Value.True Value.True = refl
+same_cell Value.True Value.False = refl
+same_cell Value.True Value.Undef = refl
+same_cell Value.False Value.True = refl
+same_cell Value.False Value.False = refl
+same_cell Value.False Value.Undef = refl
+same_cell Value.Undef Value.True = refl
+same_cell Value.Undef Value.False = refl
+same_cell Value.Undef Value.Undef = refl
 
-pub returns-then-l-opposite : goal.returns-then-l-opposite
-returns-then-l-opposite c =
-    let s = c in
-    let b = c.buffer_at-l in
-    let v = c.value-v in
-    let m = c.negate-opposite in
-    turned_opposite c.args.d c.args.h c.args.work.now c.requires.rep c.args.i c.args.f b.result v.result m.result.0 b.ensures v.ensures m.ensures c.if-l-opposite.true
+module _ (v w : Value) (x : ℕ) (e : cell_of v ≡ x) where
+  is_cell : true ≡ sameb the_type v w → x ≡ cell_of w
+  is_cell t = sym e ∙ eqb-true (cell_of v) (cell_of w) (sym (same_cell v w) ∙ sym t)
 
-pub returns-then-v-eq-FALSE : goal.returns-then-v-eq-FALSE
-returns-then-v-eq-FALSE c =
-    let s = c in
-    let b = c.buffer_at-l in
-    let v = c.value-v in
-    let m = c.negate-opposite in
-    turned_false c.args.d c.args.h c.args.work.now c.requires.rep c.args.i c.args.f b.result v.result m.result.0 b.ensures v.ensures m.ensures c.if-v-eq-TRUE.false c.if-l-opposite.false c.requires.i_bound.1 c.if-v-eq-FALSE.true
+  not_cell : false ≡ sameb the_type v w → x ≡ cell_of w → ⊥
+  not_cell t z = eqb-false (cell_of v) (cell_of w) (sym (same_cell v w) ∙ sym t) (e ∙ z)
 
-pub returns-then-l-last : goal.returns-then-l-last
-returns-then-l-last c =
-    let s = c in
-    let b = c.buffer_at-l in
-    let v = c.value-v in
-    let m = c.negate-opposite in
-    turned_again c.args.d c.args.h c.args.work.now c.requires.rep c.args.i c.args.f b.result v.result m.result.0 b.ensures v.ensures m.ensures c.if-v-eq-TRUE.false c.if-l-opposite.false c.requires.i_bound.1 c.if-l-last.true
+other : (a b k : ℕ) → false ≡ eqb a b → b ≡ k → a ≡ k → ⊥
+other a b k t e z = eqb-false a b (sym t) (z ∙ sym e)
 
-pub set_buffer-requires : goal.set_buffer-requires
-set_buffer-requires c =
-    let s = c in
-    record { rep = c.requires.rep; k_bound = omega (arith, c.requires.i_bound) }
+pub returns-then-eq : goal.returns-then-eq
+returns-then-eq c =
+    elim c.then-eq.branch [
+      | then-eq-via-then-eq w ↦ turned_true _ _ _ (is_cell _ Value.True _ c.lit_value-v.ensures w.if-eq.ensures)
+      | then-eq-via-else-eq+then-eq-2 w ↦ turned_opposite _ _ _ (eqb-true _ _ (sym w.if-eq-2.ensures) ∙ w.negate.ensures)
+    ]
 
-pub overflow_add-result : goal.overflow_add-result
-overflow_add-result c =
-    let s = c in
-    omega (arith, c.requires.i_bound, c.requires.rep.room.vars)
+pub returns-then-eq-3 : goal.returns-then-eq-3
+returns-then-eq-3 c =
+    let n = not_cell _ Value.True _ c.lit_value-v.ensures c.if-eq.ensures in
+    let o = other _ _ _ c.if-eq-2.ensures c.negate.ensures in
+    elim c.then-eq-3.branch [
+      | then-eq-3-via-then-eq-3 w ↦ turned_false _ _ _ n o (is_cell _ Value.False _ c.lit_value-v.ensures w.if-eq-3.ensures)
+      | then-eq-3-via-else-eq-3+then-eq-4 w ↦ turned_again _ _ _ n o (eqb-true _ _ (sym w.if-eq-4.ensures))
+    ]
 
 pub returns : goal.returns
 returns c =
-    let s = c in
-    let b = c.buffer_at-l in
-    let v = c.value-v in
-    let m = c.negate-opposite in
-    turned_keep c.args.d c.args.h c.args.work.now c.requires.rep c.args.i c.args.f b.result v.result m.result.0 b.ensures v.ensures m.ensures c.if-v-eq-TRUE.false c.if-l-opposite.false c.requires.i_bound.1 c.if-v-eq-FALSE.false c.if-l-last.false c.requires.i_bound.0 c.set_buffer.ensures
+    turned_stays _ _ _ (not_cell _ Value.True _ c.lit_value-v.ensures c.if-eq.ensures) (other _ _ _ c.if-eq-2.ensures c.negate.ensures)
+    (not_cell _ Value.False _ c.lit_value-v.ensures c.if-eq-3.ensures) (other _ _ _ c.if-eq-4.ensures refl)

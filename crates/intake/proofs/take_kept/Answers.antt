@@ -1,36 +1,22 @@
-use native.Mathlib.Omega.{arith}
-use Rattle.intake.specs.Taking.{took_none, took_unit, took_full, took_storing, took_stored}
+use Rattle.std.proofs.Common.{◌∙◌, sym, arith}
+use Rattle.intake.specs.Taking.{took_none, took_unit, took_full, took_storable, took_stored}
 use Rattle.intake.proofs.take_kept.Goals as goal
 
 pub returns-then-n-eq0 : goal.returns-then-n-eq0
-returns-then-n-eq0 c =
-    let s = c in
-    took_none c.args.g c.args.h c.args.work.now c.requires.rep c.requires.idle c.args.n c.requires.takeable c.if-n-eq0.true c.with_ok-r.ensures
-
-pub enqueue-r-requires : goal.enqueue-r-requires
-enqueue-r-requires c =
-    let s = c in
-    let t = c.requires.takeable in
-    let e = c.if-n-eq1.true in
-    record { rep = c.requires.rep; p_bound = (omega (arith, t.low 0 (omega (arith, e)), c.buffer_at-p.ensures), t.unit e) }
+returns-then-n-eq0 c = took_none c.args.s.now c.requires (sym c.len-n.ensures ∙ c.if-n-eq0.true)
 
 pub returns-then-n-eq1 : goal.returns-then-n-eq1
-returns-then-n-eq1 c =
-    let s = c in
-    let q = c.enqueue-r.ensures in
-    took_unit c.args.g c.args.h c.args.work.now c.requires.rep c.requires.idle c.args.n c.requires.takeable _ c.if-n-eq1.true c.buffer_at-p.ensures q.holds q.value
+returns-then-n-eq1 c = rw c.enqueue.ensures (took_unit c.args.s.now c.requires c.at.result.0 (sym c.len-n.ensures ∙ c.if-n-eq1.true) c.at.ensures)
 
-pub returns-then-not-room : goal.returns-then-not-room
-returns-then-not-room c =
-    let s = c in
-    took_full c.args.g c.args.h c.args.work.now c.requires.rep c.requires.idle c.args.n c.requires.takeable (omega (arith, c.if-n-eq0.false, c.if-n-eq1.false)) _ c.has_room-room.ensures (c.if-not-room.true)
+pub store_buffer-requires : goal.store_buffer-requires
+store_buffer-requires c =
+    took_storable c.args.s.now c.requires (omega (arith, c.if-n-eq0.false, c.if-n-eq1.false)) _ c.len-n.ensures _ c.has_room.ensures c.if-not-has_room.false
 
-pub store_buffer-r-requires : goal.store_buffer-r-requires
-store_buffer-r-requires c =
-    let s = c in
-    record { rep = c.requires.rep; storing = took_storing c.args.g c.args.h c.args.work.now c.requires.rep c.requires.idle c.args.n c.requires.takeable (omega (arith, c.if-n-eq0.false, c.if-n-eq1.false)) _ c.has_room-room.ensures (c.if-not-room.false) }
+pub returns-then-not-has_room : goal.returns-then-not-has_room
+returns-then-not-has_room c =
+    took_full c.args.s.now c.requires (omega (arith, c.if-n-eq0.false, c.if-n-eq1.false)) _ c.len-n.ensures _ c.has_room.ensures c.if-not-has_room.true
 
 pub returns : goal.returns
 returns c =
-    let s = c in
-    took_stored c.args.g c.args.h c.args.work.now c.requires.rep c.requires.idle c.args.n c.requires.takeable (omega (arith, c.if-n-eq0.false, c.if-n-eq1.false)) _ c.has_room-room.ensures (c.if-not-room.false) c.store_buffer-r.ensures
+    took_stored c.args.s.now c.requires (omega (arith, c.if-n-eq0.false, c.if-n-eq1.false)) _ c.len-n.ensures _ c.has_room.ensures c.if-not-has_room.false
+    c.store_buffer.ensures

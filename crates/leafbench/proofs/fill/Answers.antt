@@ -1,24 +1,16 @@
-use native.Mathlib.Omega.{arith}
-use native.Mathlib.Numerals.{add-one}
-use mathlib.Core.Path.{refl, sym, ◌∙◌}
-use lib.ListN.{take, drop, length-take, length-drop}
-use Rattle.state.specs.View.{whole}
-use Rattle.tour.specs.Steps.{stage}
-use Rattle.leafbench.specs.Loops.{filled_on, filled_none}
+use Rattle.std.proofs.Common.{arith, suc, add-one, sym, ap, ◌∙◌, drop, length-drop}
+use Rattle.leafbench.specs.Results.{filled}
+use Rattle.leafbench.specs.Loops.{filled_on, filled_ends}
 use Rattle.leafbench.proofs.fill.Goals as goal
 
-pub loop-i-init : goal.loop-i-init
-loop-i-init c = (omega arith, c.requires.live, refl, refl)
-
-pub loop-i-preserved : goal.loop-i-preserved
-loop-i-preserved c =
-    let v = c.loop-i in
-    let e = c.put-r.ensures in
-    let g = filled_on c.args.d v.r v.work c.args.order.now 64 v.i (omega arith) c.requires.in_bounds e in
-    (omega arith, e.live, rw add-one (g ∙ v.invariant.2), omega (arith, c.put-r.auto.work))
+pub loop-p-preserved : goal.loop-p-preserved
+loop-p-preserved c =
+    let v = c.loop-p in
+    let e = c.put.ensures in
+    (e.live, rw add-one (ap (λ s. filled s (drop (suc v.p-index) c.args.order.now)) e.value ∙ filled_on v.s c.args.order.now v.p-index c.loop-p-test.true ∙ v.invariant.1))
 
 pub returns : goal.returns
 returns c =
-    let v = c.loop-i in
-    let none = filled_none c.args.d (stage v.r (whole c.args.d v.r v.work)) (drop v.i (take 64 c.args.order.now)) (simp (length-drop, length-take) (omega arith)) in
-    record { live = v.invariant.1; stage = sym none ∙ v.invariant.2 }
+    let v = c.loop-p in
+    let none = filled_ends v.s (drop v.p-index c.args.order.now) (rw length-drop (omega (arith, c.loop-p-test.false))) in
+    record { live = v.invariant.0; value = sym none ∙ v.invariant.1 }

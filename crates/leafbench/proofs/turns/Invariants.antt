@@ -1,9 +1,8 @@
-use Prim.Native.Nat.{◌*◌, ◌≤◌}
-use mathlib.Core.Path.{◌≡◌}
-use lib.ListN.{length, take}
+use Rattle.std.proofs.Common.{◌*◌, ◌≤◌, ◌≡◌}
+use Rattle.trail.specs.View.{Counted}
+use Rattle.tour.specs.Live.{Live}
 use Rattle.leafbench.specs.Results.{put_on}
-use Rattle.leafbench.specs.Loops.{Turns}
 use Rattle.leafbench.proofs.turns.Given as goal
 
-abbrev pub invariant-loop-i : goal.invariant-loop-i
-invariant-loop-i l = (l.i ≤ l.n) × Turns l.d (l.i * put_on l.d.vars 0 (take 64 l.order)) l.r l.work × (length l.work ≡ length l.initial.work)
+abbrev pub invariant-loop : goal.invariant-loop
+invariant-loop l = (l.counter ≤ l.n) × Live l.s × Counted l.s.trail 0 0 × (l.s.config ≡ l.fn.s.config) × (l.put ≡ l.counter * put_on l.fn.s.config.vars 0 l.order)

@@ -1,16 +1,12 @@
-use Prim.Native.Nat.{◌+◌, ◌-◌}
-use mathlib.Core.Path.{◌≡◌}
-use lib.ListN.{length, drop}
+use Rattle.std.proofs.Common.{◌+◌, ◌-◌, ◌≡◌, length, drop}
 use Rattle.watch.specs.View.{list_of}
-use Rattle.state.specs.View.{whole}
-use Rattle.state.specs.WatchLaws.{On}
+use Rattle.state.specs.Walk.{On}
 use Rattle.leafbench.specs.Results.{hits}
 use Rattle.leafbench.proofs.walk.Given as goal
 
-abbrev pub invariant-loop-d : goal.invariant-loop-d
-invariant-loop-d l =
-    On l.d l.l.0 l.c (whole l.d l.h l.work)
-    × (l.k + hits l.d (whole l.d l.h l.work) (drop l.c.passed (list_of (whole l.d l.h l.work).watches l.l.0)) ≡ l.n + hits l.d (whole l.d l.h l.work) (list_of (whole l.d l.h l.work).watches l.l.0))
+abbrev pub invariant-loop-l : goal.invariant-loop-l
+invariant-loop-l l =
+    On l.l.0 l.c l.s.watches × (l.k + hits l.s (drop l.c.passed (list_of l.s.watches l.l.0)) ≡ hits l.s (list_of l.s.watches l.l.0))
 
-abbrev pub decreases-loop-d : goal.decreases-loop-d
-decreases-loop-d l = length (list_of (whole l.d l.h l.work).watches l.l.0) - l.c.passed
+abbrev pub decreases-loop-l : goal.decreases-loop-l
+decreases-loop-l l = length (list_of l.s.watches l.l.0) - l.c.passed

@@ -1,5 +1,5 @@
 use Rattle.std.proofs.Common.{◌≡◌, length}
 use Rattle.leafcheck.proofs.bumps.Given as goal
 
-abbrev pub invariant-loop-i : goal.invariant-loop-i
-invariant-loop-i l = length l.act ≡ length l.initial.act
+abbrev pub invariant-loop : goal.invariant-loop
+invariant-loop l = length l.act.activities ≡ length l.fn.act.activities

@@ -1,32 +1,22 @@
-use Rattle.learn.specs.Adding.{unit_asserts, backs_unit, clause_storable, backs_stored, backs_none}
+use Rattle.std.proofs.Common.{sym, ◌∙◌}
+use Rattle.learn.specs.Adding.{unit_asks, backs_unit, clause_asks, backs_stored, backs_none}
 use Rattle.learn.proofs.add_learnt_and_backtrack.Goals as goal
 
-pub learn_unit-r-requires : goal.learn_unit-r-requires
-learn_unit-r-requires c =
-    let a = c.args in
-    let p = c.requires in
-    record { still = p.still; asserting = unit_asserts a.g a.h a.work.now a.l.size a.l.level p.still p.analyzed c.if-n-eq1.true }
+pub learn_unit-requires : goal.learn_unit-requires
+learn_unit-requires c = unit_asks c.args.s.now c.args.level c.requires (sym c.len-n.ensures ∙ c.if-n-eq1.true)
 
 pub returns-then-n-eq1 : goal.returns-then-n-eq1
 returns-then-n-eq1 c =
-    let a = c.args in
-    let p = c.requires in
-    backs_unit a.g a.h a.work.now a.l.size a.l.level p.still p.analyzed c.if-n-eq1.true _ _ c.learn_unit-r.ensures
+    backs_unit c.args.s.now c.args.level c.requires (sym c.len-n.ensures ∙ c.if-n-eq1.true) _ c.learn_unit.ensures.has c.learn_unit.ensures.beside
 
-pub learn_clause-r-requires : goal.learn_clause-r-requires
-learn_clause-r-requires c =
-    let a = c.args in
-    let p = c.requires in
-    record { still = p.still; storable = clause_storable a.g a.h a.work.now a.l.size a.l.level p.still p.analyzed c.if-n-eq1.false _ c.has_room-room.ensures c.if-room.true }
+pub returns-then-not-has_room : goal.returns-then-not-has_room
+returns-then-not-has_room c =
+    backs_none c.args.s.now c.args.level c.requires (λ e. c.if-n-eq1.false (c.len-n.ensures ∙ e)) _ (rw c.len-n.ensures at c.has_room.ensures) c.if-not-has_room.true
 
-pub returns-then-room : goal.returns-then-room
-returns-then-room c =
-    let a = c.args in
-    let p = c.requires in
-    backs_stored a.g a.h a.work.now a.l.size a.l.level p.still p.analyzed c.if-n-eq1.false _ c.has_room-room.ensures c.if-room.true _ _ c.learn_clause-r.ensures
+pub learn_clause-requires : goal.learn_clause-requires
+learn_clause-requires c =
+    clause_asks c.args.s.now c.args.level c.requires (λ e. c.if-n-eq1.false (c.len-n.ensures ∙ e)) _ (rw c.len-n.ensures at c.has_room.ensures) c.if-not-has_room.false
 
 pub returns : goal.returns
 returns c =
-    let a = c.args in
-    let p = c.requires in
-    backs_none a.g a.h a.work.now a.l.size a.l.level p.still p.analyzed c.if-n-eq1.false _ c.has_room-room.ensures c.if-room.false
+    backs_stored c.args.s.now c.args.level c.requires (λ e. c.if-n-eq1.false (c.len-n.ensures ∙ e)) _ (rw c.len-n.ensures at c.has_room.ensures) c.if-not-has_room.false _ c.learn_clause.ensures.has c.learn_clause.ensures.beside

@@ -1,38 +1,21 @@
-use native.Mathlib.Omega.{arith}
-use Rattle.learn.specs.Backtracking.{undoable, storing_asks, learnt_asks, clause-learnt}
+use Rattle.std.proofs.Common.{ap, ◌∙◌, ◌≡◌, get_or}
+use Rattle.scratch.specs.declared.Scratch.{Scratch}
+use Rattle.learn.specs.Backtracking.{uip_in, storing_asks, stored_beside, learnt_room, learnt_has}
 use Rattle.learn.proofs.learn_clause.Goals as goal
 
-pub cancel_until-k-requires : goal.cancel_until-k-requires
-cancel_until-k-requires c =
-    let a = c.args in
-    let p = c.requires in
-    record { rep = p.still.rep; undoable = undoable a.g a.h a.work.now p.still a.level }
+pub store_buffer-requires : goal.store_buffer-requires
+store_buffer-requires c =
+    let k = c.cancel_until.ensures in
+    storing_asks c.args.s.now c.args.level c.requires _ k.has k.beside k.stored.1
 
-pub store_buffer-m-requires : goal.store_buffer-m-requires
-store_buffer-m-requires c =
-    let a = c.args in
-    let p = c.requires in
-    let k = c.cancel_until-k.ensures in
-    let whole = storing_asks a.g a.h a.work.now a.n a.level p.still p.storable _ _ k.holds k.value in
-    record { rep = whole.0; storing = whole.1 }
+pub enqueue-requires-clause-room : goal.enqueue-requires-clause-room
+enqueue-requires-clause-room c =
+    let k = c.cancel_until.ensures in
+    learnt_room c.args.s.now c.args.level c.requires _ k.has k.beside k.stored.1 _ c.store_buffer.ensures
 
-pub overflow_cast-c : goal.overflow_cast-c
-overflow_cast-c c =
-    let p = c.requires in
-    omega (arith, c.clause_count-c.ensures, p.still.formed.store.clauses, p.still.rep.room.room)
-
-pub enqueue-requires : goal.enqueue-requires
-enqueue-requires c =
-    let a = c.args in
-    let p = c.requires in
-    let k = c.cancel_until-k.ensures in
-    let whole = learnt_asks a.g a.h a.work.now a.n a.level p.still p.storable _ _ k.holds k.value _ _ c.store_buffer-m.ensures in
-    record { rep = whole.0; p_bound = rw c.buffer_at-p.ensures whole.1 }
-
-pub returns : goal.returns
-returns c =
-    let a = c.args in
-    let p = c.requires in
-    let k = c.cancel_until-k.ensures in
-    let r = c.enqueue.ensures in
-    clause-learnt a.g a.h a.work.now a.n a.level p.still p.storable _ _ k.holds k.value _ _ c.store_buffer-m.ensures _ _ _ c.clause_count-c.ensures (rw c.buffer_at-p.ensures at r.holds) r.value
+pub returns-clause-has : goal.returns-clause-has
+returns-clause-has c =
+    let k = c.cancel_until.ensures in
+    let b = stored_beside c.args.s.now c.args.level c.requires _ k.has k.beside k.stored.1 _ c.store_buffer.ensures in
+    let q : c.at.result.0 ≡ uip_in c.args.s.now = c.at.ensures ∙ ap (λ (x : Scratch). get_or x.buffer.items 0 0) b.scratch in
+    rw (c.enqueue.ensures, q) (learnt_has c.args.s.now c.args.level c.requires _ k.has k.beside k.stored.1 _ c.store_buffer.ensures _ c.len-c.ensures)

@@ -1,24 +1,15 @@
-use Rattle.learn.specs.Backtracking.{undoable, unit_asks, unit-learnt}
+use Rattle.std.proofs.Common.{ap, ◌∙◌, ◌≡◌, get_or}
+use Rattle.scratch.specs.declared.Scratch.{Scratch}
+use Rattle.learn.specs.Backtracking.{uip_in, back_room, unit_has}
 use Rattle.learn.proofs.learn_unit.Goals as goal
 
-pub cancel_until-k-requires : goal.cancel_until-k-requires
-cancel_until-k-requires c =
-    let a = c.args in
-    let p = c.requires in
-    record { rep = p.still.rep; undoable = undoable a.g a.h a.work.now p.still 0 }
+pub enqueue-requires-clause-room : goal.enqueue-requires-clause-room
+enqueue-requires-clause-room c =
+    let k = c.cancel_until.ensures in
+    back_room c.args.s.now c.requires.still 0 _ _ c.requires.asserting _ k.has k.beside
 
-pub enqueue-requires : goal.enqueue-requires
-enqueue-requires c =
-    let a = c.args in
-    let p = c.requires in
-    let k = c.cancel_until-k.ensures in
-    let whole = unit_asks a.g a.h a.work.now p.still _ p.asserting _ _ k.holds k.value in
-    record { rep = whole.0; p_bound = rw c.buffer_at-p.ensures whole.1 }
-
-pub returns : goal.returns
-returns c =
-    let a = c.args in
-    let p = c.requires in
-    let k = c.cancel_until-k.ensures in
-    let r = c.enqueue.ensures in
-    unit-learnt a.g a.h a.work.now p.still _ p.asserting _ _ k.holds k.value _ _ (rw c.buffer_at-p.ensures at r.holds) r.value
+pub returns-clause-has : goal.returns-clause-has
+returns-clause-has c =
+    let k = c.cancel_until.ensures in
+    let q : c.at.result.0 ≡ uip_in c.args.s.now = c.at.ensures ∙ ap (λ (x : Scratch). get_or x.buffer.items 0 0) k.beside.scratch in
+    rw (c.enqueue.ensures, q) (unit_has c.args.s.now c.requires _ k.has k.beside)

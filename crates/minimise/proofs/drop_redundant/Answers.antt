@@ -1,33 +1,23 @@
-use Rattle.minimise.specs.Tracing.{buffer_length}
-use lib.ListN.{length}
-use mathlib.Core.Path.{refl, ◌∙◌}
-use Prim.Native.Nat.{◌-◌, ◌≤◌}
-use native.Mathlib.Omega.{arith}
-use Rattle.state.specs.View.{whole}
-use Rattle.minimise.specs.Dropping.{shrinking_start, shrinking_ask, shrinking_turn, shrinking_end}
+use Rattle.std.proofs.Common.{arith}
+use Rattle.minimise.specs.Dropping.{shrinking_start, shrinking_ask, shrinking_gone, shrinking_kept, shrinking_end}
 use Rattle.minimise.proofs.drop_redundant.Goals as goal
+use Rattle.minimise.proofs.drop_redundant.Goals.{then-not-is_redundant, else-not-is_redundant}
 
 pub loop-i-init : goal.loop-i-init
-loop-i-init c = (shrinking_start c.args.mask c.requires.rep c.requires.minimising, refl)
+loop-i-init c = shrinking_start c.requires
 
-pub drop_next-r-requires : goal.drop_next-r-requires
-drop_next-r-requires c = record { rep = c.loop-i.invariant.0.beside.rep; droppable = shrinking_ask c.requires.minimising c.loop-i.invariant.0 c.loop-i-test.true }
-
-pub overflow_add-i : goal.overflow_add-i
-overflow_add-i c = omega (arith, c.loop-i-test.true)
-
-pub loop-i-smaller : goal.loop-i-smaller
-loop-i-smaller c = omega (arith, c.loop-i-test.true)
+pub is_redundant-requires : goal.is_redundant-requires
+is_redundant-requires c = shrinking_ask c.requires c.loop-i.invariant (omega arith) c.at-l.ensures (omega arith)
 
 pub loop-i-preserved : goal.loop-i-preserved
 loop-i-preserved c =
-    let a = c.args in
-    let p = c.requires.minimising in
-    let b : a.n ≤ length (whole a.d a.h a.work.now).scratch.buffer = omega (arith, buffer_length a.d a.h a.work.now c.requires.rep, p.most) in
-    (shrinking_turn p c.loop-i.invariant.0 b c.loop-i-test.true c.drop_next-r.ensures, c.drop_next-r.auto.work ∙ c.loop-i.invariant.1)
-
-pub shape_of-work : goal.shape_of-work
-shape_of-work c = c.loop-i.invariant.1
+    elim c.if-not-is_redundant.branch [
+      | then-not-is_redundant w ↦
+          rw (w.scratch-is, w.kept-is, w.set.ensures)
+          (shrinking_kept c.requires c.loop-i.invariant (omega arith) c.at-l.ensures c.is_redundant.ensures w.if-not-is_redundant.true)
+      | else-not-is_redundant w ↦
+          rw (w.scratch-is, w.kept-is) (shrinking_gone c.requires c.loop-i.invariant (omega arith) c.at-l.ensures c.is_redundant.ensures w.if-not-is_redundant.false)
+    ]
 
 pub returns : goal.returns
-returns c = shrinking_end c.requires.minimising c.loop-i.invariant.0 (omega arith)
+returns c = rw c.truncate.ensures (shrinking_end c.requires c.loop-i.invariant (omega arith))

@@ -1,14 +1,10 @@
-use Rattle.minimise.specs.Dropping.{judged_var, judged_decided, judged_ask, judged_tried}
+use Rattle.minimise.specs.Dropping.{judged_free, judged_caused, judged_decided, judged_tried}
 use Rattle.minimise.proofs.is_redundant.Goals as goal
 
-pub reason-requires : goal.reason-requires
-reason-requires c = record { rep = c.requires.rep; v_lt_vars = rw c.var.ensures (judged_var c.requires.rep c.requires.judgeable) }
+pub returns-then-is_some : goal.returns-then-is_some
+returns-then-is_some c = judged_tried c.requires (judged_caused c.requires c.var.ensures c.reason.ensures c.is_some.ensures c.if-is_some.true) c.lit_redundant.ensures
 
-pub returns-then-reason : goal.returns-then-reason
-returns-then-reason c = judged_decided c.requires.rep c.requires.judgeable c.var.ensures c.reason.ensures c.args.mask c.if-reason.true
-
-pub lit_redundant-requires : goal.lit_redundant-requires
-lit_redundant-requires c = record { rep = c.requires.rep; traceable = judged_ask c.requires.rep c.requires.judgeable c.var.ensures c.reason.ensures c.if-reason.false }
-
-pub returns : goal.returns
-returns c = judged_tried c.requires.rep c.requires.judgeable c.var.ensures c.reason.ensures c.if-reason.false c.lit_redundant.ensures
+pub returns-else-is_some : goal.returns-else-is_some
+returns-else-is_some c =
+    rw c.if-is_some.false
+    (judged_decided c.requires (judged_free c.requires c.var.ensures c.reason.ensures c.is_some.ensures c.if-is_some.false))

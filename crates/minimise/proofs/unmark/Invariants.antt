@@ -1,12 +1,9 @@
-use lib.ListN.{length}
-use mathlib.Core.Path.{◌≡◌}
-use Prim.Native.Nat.{◌-◌}
-use Rattle.state.specs.View.{whole}
-use Rattle.minimise.specs.Redundant.{Undoing}
+use Rattle.std.proofs.Common.{length}
+use Rattle.minimise.specs.Notes.{Undoing}
 use Rattle.minimise.proofs.unmark.Given as goal
 
-abbrev pub invariant-loop-t : goal.invariant-loop-t
-invariant-loop-t l = Undoing l.d l.h (whole l.d l.h l.initial.work) l.from l.to l.work l.t × (length l.work ≡ length l.initial.work)
+abbrev pub invariant-loop-notes : goal.invariant-loop-notes
+invariant-loop-notes l = Undoing l.initial.marks l.marks l.initial.notes l.notes l.n
 
-abbrev pub decreases-loop-t : goal.decreases-loop-t
-decreases-loop-t l = l.t - l.from
+abbrev pub decreases-loop-notes : goal.decreases-loop-notes
+decreases-loop-notes l = length l.notes.items

@@ -1,9 +1,9 @@
-use Prim.Native.Nat.{◌-◌}
+use Rattle.std.proofs.Common.{◌-◌}
 use Rattle.propagate.specs.Loops.{Propagating}
 use Rattle.propagate.proofs.propagate.Given as goal
 
-abbrev pub invariant-loop-k : goal.invariant-loop-k
-invariant-loop-k l = Propagating l.g l.initial.k l.initial.work l.k l.work
+abbrev pub invariant-loop-s : goal.invariant-loop-s
+invariant-loop-s l = Propagating l.fn.s l.s
 
-abbrev pub decreases-loop-k : goal.decreases-loop-k
-decreases-loop-k l = l.g.sizes.vars - l.k.qhead
+abbrev pub decreases-loop-s : goal.decreases-loop-s
+decreases-loop-s l = l.s.config.vars - l.s.qhead

@@ -1,10 +1,9 @@
-use Rattle.state.specs.View.{whole}
 use Rattle.propagate.specs.View.{left}
 use Rattle.propagate.specs.Loops.{Visiting}
 use Rattle.propagate.proofs.visit.Given as goal
 
-abbrev pub invariant-loop-g : goal.invariant-loop-g
-invariant-loop-g l = Visiting l.g l.initial.k l.initial.work l.p.0 l.k l.work l.c
+abbrev pub invariant-loop-p : goal.invariant-loop-p
+invariant-loop-p l = Visiting l.fn.s l.p.0 l.s l.cursor
 
-abbrev pub decreases-loop-g : goal.decreases-loop-g
-decreases-loop-g l = left l.p.0 l.c (whole l.g.sizes l.k l.work)
+abbrev pub decreases-loop-p : goal.decreases-loop-p
+decreases-loop-p l = left l.p.0 l.cursor l.s.watches

@@ -1,12 +1,12 @@
 use Rattle.model.specs.Run.{step}
-use Rattle.records.specs.Recording.{fits_clause, fits_solve}
+use Rattle.records.specs.Recording.{done, fits_clause, fits_solve}
 use Rattle.records.proofs.record.Goals as goal
 
-pub clause-requires-clause-at_in_bounds : goal.clause-requires-clause-at_in_bounds
-clause-requires-clause-at_in_bounds c = fits_clause (rw c.in-Clause.is at c.requires.fits)
+pub clause-requires-clause-room : goal.clause-requires-clause-room
+clause-requires-clause-room c = fits_clause (rw c.in-Clause.is at c.requires.fits)
 
-pub solve-requires-clause-solve_besides_in_bounds : goal.solve-requires-clause-solve_besides_in_bounds
-solve-requires-clause-solve_besides_in_bounds c = fits_solve (rw c.in-Solve.is at c.requires.fits)
+pub solve-requires-clause-room : goal.solve-requires-clause-room
+solve-requires-clause-room c = fits_solve (rw c.in-Solve.is at c.requires.fits)
 
 pub returns-in-Clause : goal.returns-in-Clause
 unfolding step

@@ -1,36 +1,33 @@
-use Rattle.std.proofs.Common.{refl, ap, ◌∙◌}
+use Rattle.std.proofs.Common.{ap, sym, ◌∙◌}
+use Rattle.model.specs.State.{initial_activity}
 use Rattle.reader.specs.Rest.{rest_of}
-use Rattle.records.specs.Recording.{recording_start, recording_fits, recording_step, recording_end}
+use Rattle.records.specs.Recording.{room_in, vars_are, rest_length, recording_first, recording_fits, recording_step, recording_end}
 use Rattle.records.proofs.records.Goals as goal
+
+pub new-requires : goal.new-requires
+new-requires c = room_in c.requires _ c.config.ensures
 
 pub loop-r-init : goal.loop-r-init
 loop-r-init c =
-    let p = c.requires in
     record {
       can_next = tt;
       is_finite = tt;
       recording =
-          recording_start c.args.g p.limited _ _ _ _ _ p.counted c.initial-inc.auto.act c.start-head.ensures c.initial-inc.ensures c.args.script.cells.now
-          c.args.out.now _ (ap rest_of c.into_iter-r-iterator.ensures.into_iter_gives ∙ c.new-r-items.ensures) p.records p.fits;
-      work_length = refl;
-      act_length = refl;
+          recording_first c.args.script c.args.out.now c.requires _ c.config.ensures _ c.new.ensures (c.new-2.ensures ∙ ap initial_activity (c.requires.counted ∙ sym (vars_are c.requires _ c.config.ensures))) _
+          (ap rest_of c.into_iter-r-iterator.ensures.into_iter_gives ∙ c.new-r-items.ensures);
     }
 
-pub record-next-requires-clause-fits : goal.record-next-requires-clause-fits
-record-next-requires-clause-fits c =
-    recording_fits c.args.g c.requires.limited _ _ _ _ _ _ _ _ _ (rw c.in-Some.ensures.steps at c.loop-r.invariant.recording)
+pub record-written-requires-clause-fits : goal.record-written-requires-clause-fits
+record-written-requires-clause-fits c =
+    recording_fits _ c.requires.limited _ _ _ _ _ _ _ (rw c.in-Some.ensures.steps at c.loop-r.invariant.recording) _ (rest_length _ _)
 
 pub loop-r-preserved : goal.loop-r-preserved
 loop-r-preserved c =
-    let i = c.loop-r.invariant in
-    let r = c.record-next in
     record {
       can_next = tt;
       is_finite = tt;
-      recording = recording_step c.args.g c.requires.limited _ _ _ _ _ _ _ _ _ (rw c.in-Some.ensures.steps at i.recording) r.result _ _ _ r.ensures;
-      work_length = r.auto.work ∙ i.work_length;
-      act_length = r.auto.act ∙ i.act_length;
+      recording = recording_step _ c.requires.limited _ _ _ _ _ _ _ (rw c.in-Some.ensures.steps at c.loop-r.invariant.recording) _ _ _ c.record-written.ensures;
     }
 
 pub returns : goal.returns
-returns c = recording_end c.args.g _ _ _ _ _ _ _ (rw c.in-None.ensures.steps.0 at c.loop-r.invariant.recording) c.requires.config
+returns c = recording_end _ _ _ _ _ _ (rw c.in-None.ensures.steps.0 at c.loop-r.invariant.recording) c.args.script.of_header

@@ -1,19 +1,19 @@
-use native.Mathlib.Omega.{arith}
-use mathlib.Core.Logic.{inl, inr}
+use Rattle.std.proofs.Common.{arith}
 use Rattle.search.specs.Turning.{halts, goes}
 use Rattle.search.proofs.on_no_conflict.Goals as goal
 
-pub returns-then-nof-recent : goal.returns-then-nof-recent
-returns-then-nof-recent c =
-    let a = c.args in
-    halts a.g a.x a.work.now a.act.now a.assumptions.now a.conflicts a.recent a.budget a.nof (inl (omega (arith, c.if-nof-recent.true))) c.stop.result _ (c.stop.ensures a.act.now)
+pub returns-then-nof-n : goal.returns-then-nof-n
+returns-then-nof-n c =
+    halts c.args.x.now c.args.q.assumptions.now c.args.n c.args.q.budget c.args.nof c.then-nof-n.either c.cancel_until.ensures.has c.cancel_until.ensures.beside
 
-pub returns-then-budget-conflicts : goal.returns-then-budget-conflicts
-returns-then-budget-conflicts c =
-    let a = c.args in
-    halts a.g a.x a.work.now a.act.now a.assumptions.now a.conflicts a.recent a.budget a.nof (inr (omega (arith, c.if-budget-conflicts.true))) c.stop-then-budget-conflicts.result _ (c.stop-then-budget-conflicts.ensures a.act.now)
+pub returns-in-Decided : goal.returns-in-Decided
+returns-in-Decided c =
+    goes c.args.x.now c.args.q.assumptions.now c.args.n c.args.q.budget c.args.nof (omega (arith, c.if-nof-n.false)) (omega (arith, c.if-q-n.false)) c.in-Decided.ensures
 
-pub returns : goal.returns
-returns c =
-    let a = c.args in
-    goes a.g a.x a.work.now a.act.now a.assumptions.now a.conflicts a.recent a.budget a.nof (omega (arith, c.if-nof-recent.false)) (omega (arith, c.if-budget-conflicts.false)) c.branch-g.result _ c.branch-g.ensures
+pub returns-in-Complete : goal.returns-in-Complete
+returns-in-Complete c =
+    goes c.args.x.now c.args.q.assumptions.now c.args.n c.args.q.budget c.args.nof (omega (arith, c.if-nof-n.false)) (omega (arith, c.if-q-n.false)) c.in-Complete.ensures
+
+pub returns-in-Failed : goal.returns-in-Failed
+returns-in-Failed c =
+    goes c.args.x.now c.args.q.assumptions.now c.args.n c.args.q.budget c.args.nof (omega (arith, c.if-nof-n.false)) (omega (arith, c.if-q-n.false)) c.in-Failed.ensures

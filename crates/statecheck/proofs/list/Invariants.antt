@@ -1,11 +1,10 @@
 use Rattle.std.proofs.Common.{◌-◌, length}
 use Rattle.watch.specs.View.{list_of}
-use Rattle.state.specs.View.{whole}
-use Rattle.state.specs.WatchLaws.{On}
+use Rattle.state.specs.Walk.{On}
 use Rattle.statecheck.proofs.list.Given as goal
 
-abbrev pub invariant-loop-d : goal.invariant-loop-d
-invariant-loop-d g l = On l.d l.l.0 l.c (whole l.d l.h l.work)
+abbrev pub invariant-loop-l : goal.invariant-loop-l
+invariant-loop-l g l = On l.l.0 l.c l.w
 
-abbrev pub decreases-loop-d : goal.decreases-loop-d
-decreases-loop-d g l = length (list_of (whole l.d l.h l.work).watches l.l.0) - l.c.passed
+abbrev pub decreases-loop-l : goal.decreases-loop-l
+decreases-loop-l g l = length (list_of l.w l.l.0) - l.c.passed

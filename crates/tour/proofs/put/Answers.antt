@@ -1,27 +1,13 @@
-use native.Mathlib.Omega.{arith}
-use Rattle.tour.specs.Live.{live_enqueued}
-use Rattle.tour.specs.Steps.{taken, still, lt_yes, lt_no}
+use Rattle.std.proofs.Common.{refl, arith, lt-ltb, length, ◌<◌, ◌≡◌}
 use Rattle.model.specs.Lit.{var}
-use mathlib.Core.Path.{◌∙◌}
+use Rattle.clause.specs.Cells.{reason_cell}
+use Rattle.tour.specs.Live.{live_enqueued}
+use Rattle.tour.specs.Steps.{at_of}
 use Rattle.tour.proofs.put.Goals as goal
 
-pub enqueue-requires : goal.enqueue-requires
-enqueue-requires c =
-    record { rep = c.requires.rep; p_bound = (omega (arith, c.if-wide-d.true, c.wide.ensures, c.var.ensures), omega (arith, c.if-h-d.true)) }
-
-pub returns-then-wide-d : goal.returns-then-wide-d
-returns-then-wide-d c =
-    let e = c.enqueue.ensures in
-    taken (live_enqueued c.requires c.args.p.0 c.args.from (omega (arith, c.if-wide-d.true, c.wide.ensures, c.var.ensures)) e.holds) e.value e.holds.whole
-    (lt_yes _ _ c.args.h.trail.assigned c.args.d.vars (omega (arith, c.if-h-d.true))
-    ∙ lt_yes _ _ (var c.args.p.0) c.args.d.vars (omega (arith, c.if-wide-d.true, c.wide.ensures, c.var.ensures)))
-
-pub returns-else-wide-d : goal.returns-else-wide-d
-returns-else-wide-d c =
-    still c.requires
-    (lt_yes _ _ c.args.h.trail.assigned c.args.d.vars (omega (arith, c.if-h-d.true))
-    ∙ lt_no _ _ (var c.args.p.0) c.args.d.vars (omega (arith, c.if-wide-d.false, c.wide.ensures, c.var.ensures)))
-
-pub returns-else-h-d : goal.returns-else-h-d
-returns-else-h-d c =
-    still c.requires (lt_no _ _ c.args.h.trail.assigned c.args.d.vars (omega arith))
+pub returns-then-var-n : goal.returns-then-var-n
+returns-then-var-n c =
+    let s = c.args.s.now in
+    let h : var c.args.p.0 < s.config.vars = omega (arith, c.if-var-n.true, c.var.ensures) in
+    let same : reason_cell c.map.result ≡ reason_cell c.args.from = grind arith in
+    rw (c.enqueue.ensures, same, lt-ltb (length s.trail.vars.trail) s.config.vars (omega (arith, c.if-assigned-n.true, c.assigned.ensures)), lt-ltb (var c.args.p.0) s.config.vars h) (at_of (live_enqueued c.requires c.args.p.0 (reason_cell c.args.from) h) refl)

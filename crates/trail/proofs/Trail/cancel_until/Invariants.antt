@@ -1,0 +1,9 @@
+use Rattle.std.proofs.Common.{length}
+use Rattle.trail.specs.Back.{Undoing}
+use Rattle.trail.proofs.Trail.cancel_until.Given as goal
+
+abbrev pub invariant-loop-self : goal.invariant-loop-self
+invariant-loop-self l = Undoing l.initial.self l.phase l.last l.at l.self
+
+abbrev pub decreases-loop-self : goal.decreases-loop-self
+decreases-loop-self l = length l.self.vars.trail

@@ -1,7 +1,0 @@
-use Rattle.trail.specs.Laws.{value_read}
-use Rattle.trail.proofs.value.Goals as goal
-
-pub returns : goal.returns
-returns c =
-    let a = c in
-    value_read c.args.d c.args.h c.args.s.now c.requires.rep c.args.v.0 c.requires.v_lt_vars

@@ -7,14 +7,14 @@ ghost use Rattle.model.specs.Lit.{l_undef};
 ghost use Rattle.model.specs.State.{initial_activity};
 ghost use Rattle.model.specs.Activity.{var_bump_activity, var_decay_activity};
 ghost use Rattle.model.specs.Decide.{pick};
-ghost use Rattle.activity.specs.Activities.{rescaled};
+ghost use Rattle.activity.specs.Activities.{activity, rescaled};
 ghost use Rattle.activity.specs.Pick.{better};
 ghost use Rattle.activity.specs.Leading.{Sizes, Leads, var_of};
 
 use clause::{UNDEF, Var};
 use std::marker::Model;
 
-// By variable its activity, and what a bump adds.
+// By variable its activity, and what a bump adds. A variable's value stands in another slice: the trail owns the values, and there is no heap.
 #[derive(Drop)]
 pub struct Activities<'a> {
     act: &'a mut [f64],
@@ -39,6 +39,35 @@ impl<'a> Activities<'a> {
     {
         act.fill(0.0);
         Activities { act, inc: 1.0 }
+    }
+
+    // Activities as they are found, and the increment to go on with: for a caller that did not begin with `new`.
+    pub fn from_parts(act: &'a mut [f64], inc: f64) -> Activities<'a>
+        ensures { result ≡ activity act.old inc }
+    {
+        Activities { act, inc }
+    }
+
+    pub fn activities(&self) -> &[f64]
+        ensures { result.now ≡ self.now.activities }
+    {
+        self.act
+    }
+
+    // What the next bump adds.
+    pub fn increment(&self) -> f64
+        ensures { result ≡ self.now.increment }
+    {
+        self.inc
+    }
+
+    // The activities as they are now, in the caller's slice again, and the increment.
+    pub fn into_parts(self) -> (&'a mut [f64], f64)
+        ensures activities { result.0.now ≡ self.entry.activities }
+        ensures increment { result.1 ≡ self.entry.increment }
+    {
+        let Activities { act, inc } = self;
+        (act, inc)
     }
 
     // All are scaled down.
@@ -83,6 +112,7 @@ impl<'a> Activities<'a> {
             var: Var(first as u32),
             top: act[first],
         };
+        // By index: an iterator chain over values and activities took 2.6 to 3 times as long.
         for i in first + 1..values.len() {
             b = better(values, act, b, i);
         }
@@ -90,7 +120,8 @@ impl<'a> Activities<'a> {
     }
 }
 
-// The best variable so far. Its activity is kept beside it: the pick looks at every variable, and this is what it compares with.
+// The best variable so far. Its activity is kept beside it: read anew at each variable, and with the tests in the other order,
+// a run with 4,096 variables took half as many instructions again (docs/PERFORMANCE.md).
 #[derive(Clone, Copy)]
 struct Best {
     var: Var,

@@ -8,7 +8,7 @@ use Rattle.model.specs.Lit.{var}
 use Rattle.model.specs.State.{VarState, level_lit}
 use Rattle.model.specs.Analyze.{highest, highest_first, backtrack_level}
 use Rattle.trail.specs.View.{Assignment, LitsOf}
-use Rattle.scratch.specs.Row.{Row, put}
+use Rattle.scratch.specs.Row.{Row, exchanged}
 
 -- the place, from 0, of the literal on the highest level, the first one on a tie
 unfoldable pub highest_place : VarState → List ℕ → ℕ
@@ -133,8 +133,7 @@ module _ (t : Assignment) (cells : List ℕ) where
   best_is x y ls best e = omega (arith, e)
 
   many : (l : List ℕ) → 2 ≤ length l → (best : ℕ) → best ≡ 1 + highest_place t.vars (drop 1 l)
-      → Seconded t (record { items = l; cells = cells })
-      (put (put (record { items = l; cells = cells }) 1 (get_or l best 0)) best (get_or l 1 0)) (level_lit t.vars (get_or l best 0))
+      → Seconded t (record { items = l; cells = cells }) (exchanged (record { items = l; cells = cells }) 1 best) (level_lit t.vars (get_or l best 0))
   unfolding highest_first highest_place
   many [] h best e = absurd (omega arith)
   many (x ∷ []) h best e = absurd (omega arith)
@@ -142,8 +141,8 @@ module _ (t : Assignment) (cells : List ℕ) where
       let i = highest t.vars 0 (level_lit t.vars y) 1 ls in
       let b : i < suc (length ls) = omega (arith, highest-bound t.vars ls 0 (level_lit t.vars y) 1 (omega arith)) in
       subst
-      (λ (k : ℕ). Seconded t (record { items = x ∷ y ∷ ls; cells = cells })
-      (put (put (record { items = x ∷ y ∷ ls; cells = cells }) 1 (get_or (x ∷ y ∷ ls) k 0)) k y) (level_lit t.vars (get_or (x ∷ y ∷ ls) k 0)))
+      (λ (k : ℕ). Seconded t (record { items = x ∷ y ∷ ls; cells = cells }) (exchanged (record { items = x ∷ y ∷ ls; cells = cells }) 1 k)
+      (level_lit t.vars (get_or (x ∷ y ∷ ls) k 0)))
       (sym (best_is x y ls best e))
       (record {
         buffer = refl;
@@ -157,5 +156,5 @@ module _ (t : Assignment) (b : Row) where
   seconded-unit g = few t b.cells b.items g
 
   pub seconded_swap : 2 ≤ length b.items → (best : ℕ) → best ≡ 1 + highest_place t.vars (drop 1 b.items)
-      → Seconded t b (put (put b 1 (get_or b.items best 0)) best (get_or b.items 1 0)) (level_lit t.vars (get_or b.items best 0))
+      → Seconded t b (exchanged b 1 best) (level_lit t.vars (get_or b.items best 0))
   seconded_swap g best e = many t b.cells b.items g best e

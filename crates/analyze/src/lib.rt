@@ -1,4 +1,5 @@
-// Rule 3: from a false clause to the clause that is learnt.
+// Rule 3: from a false clause to the clause that is learnt. As in all rules, the blocks are lent one by one and not as a struct:
+// so a rule writes some while it reads others, and what it does not take it cannot change.
 #![tactic(auto)]
 
 ghost use Rattle.std.specs.Prelude.{◌≡◌, true, [], ◌∷◌, ◌+◌, ◌*◌, ◌-◌, ◌<◌, ◌≤◌, length, get_or, drop, replicate};
@@ -17,7 +18,11 @@ use scratch::{Lits, Marks, Scratch};
 use store::Store;
 use trail::Trail;
 
-// Whether a literal joins: its variable is not marked, and above level 0.
+// That literals are of the trail's variables (`LitsOf`), and that each variable has a mark, is asked here and in rules 4 and 6:
+// it depends on the trail and the marks, so no type of one of them has it as an invariant.
+
+// Whether a literal joins: its variable is not marked, and above level 0. Rule 4 asks the same (`is_open` of crate minimise):
+// to share the line would take a crate between the two.
 fn joins(trail: &Trail, marks: &Marks, q: Lit) -> bool
     requires { (var q.0 < length trail.now.vars.values) × (length marks.now ≡ length trail.now.vars.values) }
     ensures { result ≡ is_new trail.now.vars marks.now q.0 }
@@ -48,6 +53,7 @@ fn join_lit(
 }
 
 // The literals of the part join the resolvent, of which `path` are on the conflict's level; the result is how many are then.
+// The count goes in and comes out: it is the walk's, and no block's.
 fn join(
     trail: &Trail,
     scratch: &mut Scratch,
@@ -68,12 +74,13 @@ fn join(
     path
 }
 
-// The last place of the trail before i whose literal is marked, 0 where there is none.
+// The last place of the trail before i whose literal is marked, 0 where there is none: whoever asks knows of one, and would unwrap an Option.
 fn last_seen(trail: &Trail, marks: &Marks, i: usize) -> usize
     requires i_in_bounds { i ≤ length trail.now.vars.trail }
     requires lits { LitsOf (length marks.now) trail.now.vars.trail }
     ensures { result ≡ last_seen marks.now trail.now.vars.trail i }
 {
+    // By place: the trail hands out its literals one by one, so there is no iterator to ask for the last place.
     for k in (0..i).rev() {
         if marks.is_set(trail.at(k).var()) {
             return k;
@@ -114,6 +121,7 @@ pub fn first_uip(
     ensures { Uip trail.now clauses.now scratch.old scratch.new act.old act.new confl }
 {
     scratch.buffer.clear();
+    // The first place is the UIP's, which is known last; the definition begins with the same literal.
     scratch.buffer.push(Lit::undef());
     let mut path = join(trail, scratch, act, clauses.clause(confl), 0);
     let mut i = trail.assigned();
@@ -133,6 +141,7 @@ fn highest(trail: &Trail, buffer: &Lits) -> usize
     ensures { result ≡ 1 + highest_place trail.now.vars (drop 1 buffer.now.items) }
 {
     let mut best = 1;
+    // By place, since the place is what is sought; `max_by_key` gives the last on a tie, and the definition takes the first.
     for i in 2..buffer.len() {
         if trail.level(buffer.at(best).var()) < trail.level(buffer.at(i).var()) {
             best = i;
@@ -141,7 +150,8 @@ fn highest(trail: &Trail, buffer: &Lits) -> usize
     best
 }
 
-// Of the buffer's literals the one on the highest level, but for the first, changes places with the second. The result is its level, 0 where there is none.
+// Of the buffer's literals the one on the highest level, but for the first, changes places with the second. The result is its level, 0 where there is none: the level to
+// go back to, as the definition has it.
 pub fn highest_second(trail: &Trail, buffer: &mut Lits) -> usize
     requires { LitsOf (length trail.now.vars.values) (drop 1 buffer.old.items) }
     ensures { Seconded trail.now buffer.old buffer.new result }
@@ -150,10 +160,8 @@ pub fn highest_second(trail: &Trail, buffer: &mut Lits) -> usize
         return 0;
     }
     let best = highest(trail, buffer);
-    let p = buffer.at(1);
     let q = buffer.at(best);
-    buffer.set(1, q);
-    buffer.set(best, p);
+    buffer.swap(1, best);
     trail.level(q.var())
 }
 
@@ -162,7 +170,7 @@ pub fn unmark_buffer(marks: &mut Marks, buffer: &Lits)
     requires { MarksOf (length marks.old) marks.old (drop 1 buffer.now.items) }
     ensures { marks.new ≡ replicate (length marks.old) 0 }
 {
-    for i in 1..buffer.len() {
-        marks.unset(buffer.at(i).var());
+    for l in buffer.rest() {
+        marks.unset(Lit(*l).var());
     }
 }

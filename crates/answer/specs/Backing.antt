@@ -4,23 +4,25 @@ use Rattle.std.proofs.Common.{arith, sym, subst, inl, inr}
 use Rattle.model.specs.State as ms
 use Rattle.model.specs.Search.{FALSE, still_ok}
 use Rattle.state.specs.declared.State.{State}
-use Rattle.state.specs.Still.{Sized, state_at}
+use Rattle.state.specs.Still.{state_at}
 use Rattle.decide.specs.Deciding.{Ended as Refuted}
 use Rattle.search.specs.declared.Status.{Status}
 use Rattle.search.specs.Held.{status_of, Left, still_refuted}
 
 -- ---- FALSE with an empty final clause
 
--- s' is s, closed for good if the status asks for it
-pub record StillOk (t : Status) (s s' : State) : Type 0 where
-  pub state : state_at s' ≡ still_ok (status_of t s) (state_at s)
-  pub left : Refuted s'
-  pub config : s'.config ≡ s.config
-
 -- the clauses are known to have no model
-abbrev closed : State → State
+abbrev pub closed : State → State
 closed s =
     record { config = s.config; trail = s.trail; scratch = s.scratch; watches = s.watches; clauses = s.clauses; finals = s.finals; qhead = s.qhead; ok = false }
+
+-- s' is s, closed for good if the status asks for it; nothing else of it changes
+pub record StillOk (t : Status) (s s' : State) : Type 0 where
+  pub state : state_at s' ≡ still_ok (status_of t s) (state_at s)
+  pub only : (s' ≡ s) ⊎ (s' ≡ closed s)
+  pub left : Left t s'
+  pub refuted : Refuted s'
+  pub config : s'.config ≡ s.config
 
 ok_final : (s : ms.State) (ls : List ℕ) → length ls ≢ 0 → s ≡ still_ok (FALSE ls) s
 unfolding still_ok
@@ -36,48 +38,27 @@ module _ {s : State} where
   -- any other end
   pub ok_kept : (t : Status) → Left t s → (t ≢ Status.False) ⊎ (length s.finals.items ≢ 0) → StillOk t s s
   unfolding still_ok
-  ok_kept Status.True l e = record { state = refl; left = still_refuted l; config = refl }
+  ok_kept Status.True l e = record { state = refl; only = inl refl; left = l; refuted = still_refuted l; config = refl }
   ok_kept Status.False l (inl d) = absurd (d refl)
-  ok_kept Status.False l (inr n) = record { state = ok_final (state_at s) s.finals.items n; left = l; config = refl }
-  ok_kept Status.Undef l e = record { state = refl; left = still_refuted l; config = refl }
-  ok_kept Status.NoStorage l e = record { state = refl; left = still_refuted l; config = refl }
+  ok_kept Status.False l (inr n) = record { state = ok_final (state_at s) s.finals.items n; only = inl refl; left = l; refuted = l; config = refl }
+  ok_kept Status.Undef l e = record { state = refl; only = inl refl; left = l; refuted = still_refuted l; config = refl }
+  ok_kept Status.NoStorage l e = record { state = refl; only = inl refl; left = l; refuted = still_refuted l; config = refl }
 
-  sized_closed : Sized s → Sized (closed s)
-  sized_closed z =
+  refuted_closed : Refuted s → Refuted (closed s)
+  refuted_closed k =
+      let f = k.formed in
       record {
-        some = z.some;
-        vars = z.vars;
-        room = z.room;
-        lit_room = z.lit_room;
-        values = z.values;
-        marks = z.marks;
-        buffer = z.buffer;
-        stack = z.stack;
-        notes = z.notes;
-        lists = z.lists;
-        blockers = z.blockers;
-        chains = z.chains;
-        clauses = z.clauses;
-        literals = z.literals;
-        flags = z.flags;
-        members = z.members;
+        sized = k.sized;
+        marks = k.marks;
+        pushed = k.pushed;
+        nodes = k.nodes;
+        formed = record { store = f.store; vars = f.vars; phases = f.phases; signs = f.signs; qhead = f.qhead };
       }
 
   closes : Refuted s → length s.finals.items ≡ 0 → StillOk Status.False s (closed s)
   closes k z =
-      let f = k.formed in
-      record {
-        state = ok_empty (state_at s) s.finals.items z;
-        left =
-            record {
-              sized = sized_closed k.sized;
-              marks = k.marks;
-              pushed = k.pushed;
-              nodes = k.nodes;
-              formed = record { store = f.store; vars = f.vars; phases = f.phases; signs = f.signs; qhead = f.qhead };
-            };
-        config = refl;
-      }
+      let r = refuted_closed k in
+      record { state = ok_empty (state_at s) s.finals.items z; only = inr refl; left = r; refuted = r; config = refl }
 
   pub ok_closed : (t : Status) → Left t s → t ≡ Status.False → length s.finals.items ≡ 0
       → StillOk t s (record { config = s.config; trail = s.trail; scratch = s.scratch; watches = s.watches; clauses = s.clauses; finals = s.finals; qhead = s.qhead; ok = false })

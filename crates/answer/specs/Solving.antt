@@ -18,6 +18,7 @@ use Rattle.ends.specs.Answer.{Idle, closed, ready, found_by}
 use Rattle.ends.proofs.Answer.{solve_cases, solve_idle}
 use Rattle.ends.proofs.Out.{clause_idle}
 use Rattle.ends.specs.Bounds.{Limited}
+use Rattle.options.specs.Numbers.{phase_number}
 use Rattle.state.specs.declared.Config.{Config}
 use Rattle.state.specs.declared.State.{State}
 use Rattle.state.specs.Still.{Still, Has, state_at, config_of}
@@ -81,7 +82,7 @@ module _ (x : Solver) (between : Between x) (limited : Limited (config_of x.stat
         }
 
     module _ (ok : x.state.ok ≡ true) {r : Searched} {x₁ : Solver} (found : Ended (found_by (config_of x.state.config) (solver_at x) ps budget) x x₁ r)
-        {s₂ : State} (closing : StillOk r.status x₁.state s₂) {s₄ : State} (has : Has s₄ (cancel_until s₂.config.phase (state_at s₂) 0)) (config : s₄.config ≡ s₂.config) where
+        {s₂ : State} (closing : StillOk r.status x₁.state s₂) {s₄ : State} (has : Has s₄ (cancel_until (phase_number s₂.config.phase) (state_at s₂) 0)) (config : s₄.config ≡ s₂.config) where
       solve_is : solved_by (config_of x.state.config) (searched_of x₁ r) ≡ model.solve (config_of x.state.config) (solver_at x) ps budget
       solve_is = ap (solved_by cfg) found.is ∙ sym (solve_open cfg (solver_at x) ps budget ok)
 
@@ -91,11 +92,11 @@ module _ (x : Solver) (between : Between x) (limited : Limited (config_of x.stat
       config_is : s₂.config ≡ x.state.config
       config_is = closing.config ∙ found.kept.config
 
-      state_is : state_at s₄ ≡ cancel_until x.state.config.phase (still_ok (searched_of x₁ r).status (state_at x₁.state)) 0
+      state_is : state_at s₄ ≡ cancel_until (phase_number x.state.config.phase) (still_ok (searched_of x₁ r).status (state_at x₁.state)) 0
       state_is =
           has.state
-          ∙ ap (λ (g : Config). cancel_until g.phase (state_at s₂) 0) config_is
-          ∙ ap (λ (s : ms.State). cancel_until x.state.config.phase s 0) closing.state
+          ∙ ap (λ (g : Config). cancel_until (phase_number g.phase) (state_at s₂) 0) config_is
+          ∙ ap (λ (s : ms.State). cancel_until (phase_number x.state.config.phase) s 0) closing.state
 
       left_is : solver_at (record { state = s₄; activity = x₁.activity }) ≡ (model.solve (config_of x.state.config) (solver_at x) ps budget).solver
       left_is =
@@ -104,7 +105,7 @@ module _ (x : Solver) (between : Between x) (limited : Limited (config_of x.stat
 
       level_is : decision_level s₄.trail.vars ≡ 0
       level_is =
-          let b = cancel_level s₂.config.phase (state_at s₂) 0 closing.left.formed.vars in
+          let b = cancel_level (phase_number s₂.config.phase) (state_at s₂) 0 closing.refuted.formed.vars in
           subst (λ (s : ms.State). decision_level s.vars ≡ 0) (sym has.state) (omega (arith, b))
 
       kept_is : Kept x (record { state = s₄; activity = x₁.activity })

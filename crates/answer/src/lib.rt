@@ -24,13 +24,13 @@ fn put_answer(x: &Solver, r: Searched, out: &mut [u32]) -> usize
 {
     let s = &x.state;
     match r.status {
-        Status::True => cells::put_solve(out, Verdict::True, r.conflicts, s.trail.values()),
+        Status::True => cells::put_verdict(out, Verdict::True, r.conflicts, s.trail.values()),
         Status::False => {
             s.finals.sound();
-            cells::put_solve(out, Verdict::False, r.conflicts, s.finals.items())
+            cells::put_verdict(out, Verdict::False, r.conflicts, s.finals.items())
         }
-        Status::Undef => cells::put_stopped(out, r.conflicts, Cause::Budget),
-        Status::NoStorage => cells::put_stopped(out, r.conflicts, Cause::Storage),
+        Status::Undef => cells::put_cause(out, r.conflicts, Cause::Budget),
+        Status::NoStorage => cells::put_cause(out, r.conflicts, Cause::Storage),
     }
 }
 
@@ -45,6 +45,7 @@ fn still_ok(s: &mut State, status: Status)
 }
 
 // A solve where the clauses are not known to have no model. Rule 9: back to level 0, and the final clause is taken back.
+// What is asked here and below is of the solver, the query and the room in out together, so no one type has it as an invariant.
 fn solve_ok(x: &mut Solver, q: Query, out: &mut [u32]) -> usize
     requires between { Between x.old }
     requires ok { x.old.state.ok ≡ true }
@@ -72,7 +73,7 @@ pub fn solve(x: &mut Solver, q: Query, out: &mut [u32]) -> usize
     if x.state.ok {
         return solve_ok(x, q, out);
     }
-    cells::put_solve(out, Verdict::False, 0, &[])
+    cells::put_verdict(out, Verdict::False, 0, &[])
 }
 
 // A clause, answered in one cell.

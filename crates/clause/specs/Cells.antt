@@ -1,6 +1,6 @@
 -- How a cell holds a truth value, and the reason of an assignment.
-use Rattle.std.specs.Prelude.{ℕ, suc, zero, ◌<◌, ◌≡◌, refl, ◌≢◌, Option, Some, None, eqb, Bool, true, false}
-use Rattle.std.proofs.Common.{arith, ne_eqb}
+use Rattle.std.specs.Prelude.{ℕ, suc, zero, ◌<◌, ◌≡◌, refl, Option, Some, None, eqb, true, false}
+use Rattle.std.proofs.Common.{arith}
 use Rattle.model.specs.Lit.{no_reason}
 use Rattle.clause.specs.declared.Value.{Value}
 use Rattle.clause.specs.declared.Value.TheVariants.{True, False, Undef}

@@ -21,7 +21,7 @@ pub enum Value {
     Undef,
 }
 
-// The cell of a variable without a value.
+// The cell of a variable without a value. C lends work as numbers, so a cell is one; what it stands for is a `Value`, or an Option for a reason.
 pub const UNDEF: u32 = Value::Undef as u32;
 
 // The cell of the reason of a decision and of a unit, the Rust's CRef::UNDEF.
@@ -39,7 +39,7 @@ impl From<u32> for Value {
     }
 }
 
-// The clause that a reason's cell names.
+// The clause that a reason's cell names. This and the next are no `From`, which a crate gives for its own types alone, and u32 and Option are not.
 pub fn reason_at(cell: u32) -> Option<usize>
     ensures { result ≡ reason_at cell }
 {
@@ -62,14 +62,14 @@ pub fn reason_cell(reason: Option<usize>) -> u32
 }
 
 impl Lit {
-    // The literal that no script reaches.
+    // The literal that no script reaches. As in the definition it stands for none: in a buffer's first place until the UIP is known, and at intake before one is kept.
     pub fn undef() -> Lit
         ensures { result.0 ≡ undef_lit }
     {
         Lit(4294967294)
     }
 
-    // The literal of a variable with a sign: 0 positive, 1 negated.
+    // The literal of a variable with a sign: 0 positive, 1 negated. A number and no bool, since it is what is added.
     pub fn new(v: Var, sign: u32) -> Lit
         requires { (v.0 < 2147483648) × (sign < 2) }
         ensures { result.0 ≡ 2 * v.0 + sign }
@@ -83,7 +83,7 @@ impl Lit {
         Var(self.0 / 2)
     }
 
-    // 0 for a positive literal, 1 for a negated one.
+    // 0 for a positive literal, 1 for a negated one: a number, as `new` takes it.
     pub fn sign(self) -> u32
         ensures { result ≡ sign self.0 }
     {

@@ -6,8 +6,10 @@ ghost use Rattle.counter.specs.Counter.{helper, columns, pair, stop, next_row, r
 ghost use Rattle.counter.specs.Wrote.{Wrote, Fits};
 
 use clause::Lit;
+use script::Kind;
 
-// A lent slice, and how many of its cells are written.
+// A lent slice, and how many of its cells are written. That what is to come fits (`Fits`) is no invariant: it depends on what is to come,
+// and it bounds `at` too. `same_reference` (it still lends the same slice) stands beside `Wrote`, which is of two slices and knows no writer.
 #[derive(Drop)]
 pub struct Writer<'a> {
     pub out: &'a mut [u32],
@@ -15,14 +17,14 @@ pub struct Writer<'a> {
 }
 
 impl Writer<'_> {
-    // A clause as a record of kind 1.
+    // A clause as a record of kind 1. Crates smallbooks and text write one too, to a vector and to the rest of a slice that may be short: no one function does all.
     fn put(&mut self, c: &[u32])
         requires c_in_bounds { self.old.at + 2 + length c.now ≤ length self.old.out.now }
         requires c_len_bound { length c.now ≤ 3 }
         ensures same_reference { self.new.out.ghost_name ≡ self.old.out.ghost_name }
         ensures wrote { Wrote self.old.out.now self.old.at (c.now ∷ []) self.new.out.now self.new.at }
     {
-        self.out[self.at] = 1;
+        self.out[self.at] = Kind::Clause as u32;
         self.out[self.at + 1] = c.len() as u32;
         cells::put(self.out, self.at + 2, c);
         self.at += 2 + c.len();
@@ -56,7 +58,8 @@ pub fn negations(w: &mut Writer, literals: &[u32])
     }
 }
 
-// The columns behind the first of the row at base are false.
+// The columns behind the first of the row at base are false. Here and below `base` and `k` are two numbers and no row: k is the call's and stays,
+// the base goes on, and the bounds of each function are its own.
 fn zeros(w: &mut Writer, base: u32, k: u32)
     requires k_bound { base + k ≤ max_variables }
     requires fits { Fits w.old.at (zeros base 0 (k - 1)) (length w.old.out.now) }
@@ -125,6 +128,7 @@ fn rows(w: &mut Writer, literals: &[u32], first: u32, k: u32)
     ensures wrote { Wrote w.old.out.now w.old.at (rows k first literals.now) w.new.out.now w.new.at }
 {
     let last = literals.len() - 1;
+    // The base of each literal's row goes on by k: a `zip` with `step_by` would say the same less plainly.
     let mut base = first;
     for l in &literals[..last] {
         next_row(w, *l, base, k);

@@ -2,19 +2,12 @@
 ghost use Rattle.std.specs.Prelude.{◌≡◌, ◌++◌, ◌+◌, ◌≤◌, ◌<◌, length};
 ghost use Rattle.model.specs.Book.{all, in_range_of};
 ghost use Rattle.script.specs.Judging.{Judged};
-ghost use Rattle.script.specs.Front.{from_one};
 ghost use Rattle.counter.specs.Counter.{helpers, max_count, max_helpers, named, distinct, apart, helpers_fit, at_most_rows};
 ghost use Rattle.counter.specs.Rows.{call_rows, name_rows, room_rows};
 
 use crate::{MAX_COUNT, len};
 use refusal::{Refusal, Rule};
-use script::{MAX_VARIABLES, check};
-
-fn from_one(x: usize, high: usize) -> bool
-    ensures { result ≡ from_one x high }
-{
-    1 <= x && x <= high
-}
+use script::{MAX_VARIABLES, check, from_one};
 
 // Each is a literal of v variables.
 fn in_range(v: u32, literals: &[u32]) -> bool
@@ -53,7 +46,8 @@ fn helpers(k: u32, n: usize) -> usize
     if k < n { (n - 1) * k } else { 0 }
 }
 
-// The literal's variable is none of the `used` helpers from first on.
+// The literal's variable is none of the `used` helpers from first on. Here and below first and used stand apart, and used is at most so many that
+// their sum fits: a struct of them would ask the same where it is made.
 fn is_apart(first: u32, used: usize, l: u32) -> bool
     requires { used ≤ max_helpers }
     ensures { result ≡ apart first used l }
@@ -110,7 +104,7 @@ fn judge_room(literals: &[u32], k: u32, first: u32, room: usize) -> Result<(), R
     check(need <= room as u64, Rule::ShortClauses, need)
 }
 
-// The first row that does not hold, or none.
+// The first row that does not hold, or none. The call's numbers stand apart, as C gives them.
 pub fn judge(v: u32, literals: &[u32], k: u32, first: u32, room: usize) -> Result<(), Refusal>
     ensures { Judged result (at_most_rows v literals.now k first room) }
 {

@@ -16,7 +16,7 @@ use refusal::Refusal;
 // The literals of a call are 1 to this.
 const MAX_COUNT: usize = 64;
 
-// How many cells are written, of n literals; 0 for more literals than a call may have.
+// How many cells are written, of n literals; 0 for more literals than a call may have, since C takes no Option.
 pub fn len(n: u32, k: u32) -> u64
     ensures { result ≡ len_of n k }
 {
@@ -46,7 +46,8 @@ fn write(w: &mut Writer, literals: &[u32], k: u32, first: u32)
     }
 }
 
-// Writes the clauses that say that at most k of the literals are true, with helpers from variable first on, and returns how many cells they take; or says why the call is turned back.
+// Writes the clauses that say that at most k of the literals are true, with helpers from variable first on.
+// Returns how many cells they take, or says why the call is turned back.
 pub fn at_most(
     v: u32,
     literals: &[u32],

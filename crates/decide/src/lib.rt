@@ -58,6 +58,7 @@ fn blame(trail: &Trail, clauses: &Store, marks: &mut Marks, finals: &mut LitSet,
     requires { Blamable trail.now clauses.now marks.old finals.old start }
     ensures { Blamed trail.now clauses.now marks.old marks.new finals.old finals.new start }
 {
+    // By place: where a level starts is a place of the trail, which hands out its literals one by one.
     for i in (start..trail.assigned()).rev() {
         pass_back(trail, clauses, marks, finals, trail.at(i));
     }
@@ -106,7 +107,8 @@ fn open_level(s: &mut State, p: Lit)
     s.trail.enqueue(p, None);
 }
 
-// The unset variable of greatest activity, in its saved sign; none where every variable has a value.
+// The unset variable of greatest activity, in its saved sign; none where every variable has a value. The activities stand beside the state,
+// and that each variable has one is asked: what reads no float takes none (`Solver` of crate search has both).
 fn pick_branch_lit(s: &State, act: &Activities) -> Option<Lit>
     requires still { Still s.now }
     requires sized { s.now.config.vars ≤ length act.now.activities }
@@ -154,6 +156,7 @@ pub fn decide(s: &mut State, act: &Activities, assumptions: &[u32]) -> Decision
     requires assumable { (length assumptions.now ≤ 2 * s.old.config.vars) × Every (λ p. p < 2 * s.old.config.vars) assumptions.now }
     ensures { Decides (decide act.now.activities assumptions.now (state_at s.old)) s.old s.new result }
 {
+    // By place: the assumption at k has level k + 1, so the first without a level is at the number of levels.
     for k in s.trail.decision_level()..assumptions.len() {
         let p = Lit(assumptions[k]);
         let x = s.trail.lit_value(p);

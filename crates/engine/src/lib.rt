@@ -11,7 +11,8 @@ ghost use Rattle.engine.specs.AtMost.{GivesAtMost};
 use refusal::Refusal;
 use script::Script;
 
-// Runs a script, and returns how many out cells were written; or says why it is turned back.
+// Runs a script, and returns how many out cells were written; or says why it is turned back. The three slices stand apart, here, below and in crate
+// `records`: they are C's parameters, and of a struct of them the promise would have to say too that it still lends the same slices.
 pub fn run(
     script: &[u32],
     work: &mut [u32],
@@ -28,7 +29,7 @@ pub fn run(
     Ok(cells as u64)
 }
 
-// An answer in numbers: refusal is 0 and the result the cells, or they are a refusal's number and place.
+// An answer in numbers, since C takes no Result: refusal is 0 and the result the cells, or they are a refusal's number and place.
 fn in_numbers(answer: Result<u64, Refusal>, refusal: &mut u32) -> u64
     ensures number { refusal.new ≡ number_of (answer_of answer) }
     ensures value { result ≡ value_of (answer_of answer) }
@@ -65,7 +66,7 @@ pub fn engine_work_len(v: u32, c: u32, l: u32) -> u64
     script::work_len(v, c, l)
 }
 
-// The out cells that a script asks for; 0 where its header or a record is turned back.
+// The out cells that a script asks for; 0 where its header or a record is turned back, since C takes no Option.
 pub fn engine_out_len(script: &[u32]) -> u64
     ensures { result ≡ out_len_of script.now }
 {
@@ -86,7 +87,7 @@ pub fn engine_at_most(
     in_numbers(counter::at_most(v, literals, k, first_helper, out), refusal)
 }
 
-// The cells that the clauses for n literals take; 0 for more literals than a call may have.
+// The cells that the clauses for n literals take; 0 for more literals than a call may have, since C takes no Option.
 pub fn engine_at_most_len(n: u32, k: u32) -> u64
     ensures { result ≡ len_of n k }
 {

@@ -41,10 +41,7 @@ fn sort_in(buffer: &mut Lits, part: &[u32])
     requires { length part.now ≤ length buffer.old.cells }
     ensures { Sorts buffer.old buffer.new part.now }
 {
-    buffer.clear();
-    for l in part {
-        buffer.push(Lit(*l));
-    }
+    buffer.set_all(part);
     buffer.sort();
 }
 
@@ -71,13 +68,16 @@ fn judge(trail: &Trail, l: Lit, last: Lit) -> Turn
     Turn::Stays
 }
 
-// What is left of the buffer's sorted literals; the clause is dropped, and the result false, where one is true or both signs of a variable are there.
+// What is left of the buffer's sorted literals; the clause is dropped, and the result false, where one is true or both signs of a variable are there. No Option
+// of what is left: that is the buffer, which is lent.
 fn simplify(trail: &Trail, buffer: &mut Lits) -> bool
     requires { Simplifiable trail.now buffer.old }
     ensures { Simplified trail.now buffer.old buffer.new result }
 {
+    // None is kept yet: the definition's literal for none. An Option would be one case more in both tests of `judge`.
     let mut last = Lit::undef();
     let mut kept = 0;
+    // By place: the literals kept are written over those that were read.
     for i in 0..buffer.len() {
         let l = buffer.at(i);
         match judge(trail, l, last) {

@@ -18,8 +18,8 @@ use Rattle.watch.specs.Meaning.{as_count}
 use Rattle.state.specs.declared.Config.{Config}
 use Rattle.state.specs.declared.State.{State}
 use Rattle.state.specs.Start.{Started}
-use Rattle.tour.specs.Live.{Live}
-use Rattle.tour.specs.Steps.{At, pick, with_trail, opened, placed, gone_back, three, added}
+use Rattle.tour.specs.Live.{Live, live_started, live_stored}
+use Rattle.tour.specs.Steps.{pick, with_trail, opened, placed, gone_back, three, added}
 use Rattle.leafbench.specs.Results.{filled, put_on, signs, blocks, hits, trues, unless_short}
 
 -- ---- the two outcomes of a test
@@ -104,15 +104,23 @@ filled_ends s (p ∷ ps) e = absurd (let z : suc (length ps) ≡ 0 = e in omega 
 
 -- ---- a level is opened, filled and taken back
 
-module _ {s a b r : State} (ps : List ℕ) (v : Live s) (none : Counted s.trail 0 0) (opens : At a (opened s)) (fills : At b (filled a ps)) (backs : At r (gone_back b 0 2)) where
+module _ (s : State) (ps : List ℕ) {a b r : State} (v : Live b) (none : Counted s.trail 0 0) (opens : a ≡ opened s) (fills : b ≡ filled a ps) (backs : r ≡ gone_back b 0 2) where
+  config_open : b.config ≡ s.config
+  config_open =
+      ap (λ (t : State). t.config) fills
+      ∙ filled_keeps (λ t. t.config) (λ t p. refl) a ps
+      ∙ ap (λ (t : State). t.config) opens
+      ∙ picked (λ (t : State). t.config) (with_trail s (next_level s.trail)) s (ltb (decision_level s.trail.vars) (3 * s.config.vars)) refl
+
   is_open : a ≡ with_trail s (next_level s.trail)
-  is_open = opens.value ∙ rw (lt-ltb (decision_level s.trail.vars) (3 * s.config.vars) (omega (arith, none.levels, v.some))) refl
+  is_open =
+      opens ∙ rw (lt-ltb (decision_level s.trail.vars) (3 * s.config.vars) (omega (arith, none.levels, v.some, ap (λ (g : Config). g.vars) config_open))) refl
 
   limits_open : b.trail.vars.limits ≡ s.trail.vars.limits ++ (on s ∷ [])
   unfolding unchecked_enqueue new_decision_level
   limits_open =
       let limits : State → List ℕ = λ t. t.trail.vars.limits in
-      ap limits fills.value ∙ filled_keeps limits (λ t p. refl) a ps ∙ ap limits is_open
+      ap limits fills ∙ filled_keeps limits (λ t p. refl) a ps ∙ ap limits is_open
 
   one_level : decision_level b.trail.vars ≡ 1
   one_level = ap (λ (ls : List ℕ). length ls) limits_open ∙ length-append s.trail.vars.limits (on s ∷ []) ∙ omega (arith, none.levels)
@@ -121,14 +129,10 @@ module _ {s a b r : State} (ps : List ℕ) (v : Live s) (none : Counted s.trail 
   starts_at =
       ap (λ (ls : List ℕ). get_or ls 0 0) limits_open ∙ get_or_at s.trail.vars.limits (on s) [] 0 0 none.levels ∙ none.assigned
 
-  config_open : b.config ≡ s.config
-  unfolding new_decision_level
-  config_open = ap (λ (t : State). t.config) fills.value ∙ filled_keeps (λ t. t.config) (λ t p. refl) a ps ∙ ap (λ (t : State). t.config) is_open
-
   pub turn_put : on b ≡ put_on s.config.vars 0 ps
   unfolding new_decision_level
   turn_put =
-      ap on fills.value ∙ filled_put a ps ∙ ap₂ (λ (m k : ℕ). put_on m k ps) (ap (λ (t : State). t.config.vars) is_open) (ap on is_open ∙ none.assigned)
+      ap on fills ∙ filled_put a ps ∙ ap₂ (λ (m k : ℕ). put_on m k ps) (ap (λ (t : State). t.config.vars) is_open) (ap on is_open ∙ none.assigned)
 
   goes : r ≡ record b { trail = until 2 b.trail 0; qhead = level_end b.trail.vars 0 }
   goes =
@@ -138,12 +142,12 @@ module _ {s a b r : State} (ps : List ℕ) (v : Live s) (none : Counted s.trail 
       (lt-ltb 0 (decision_level b.trail.vars) (omega (arith, one_level)), le-leb (level_end b.trail.vars 0) (on b) (omega (arith, starts_at)), le-leb (level_end b.trail.vars 0) (level_end b.trail.vars (decision_level b.trail.vars - 1)) (omega (arith, starts_at)))
       refl
       in
-      backs.value ∙ e
+      backs ∙ e
 
   pub turned : Counted r.trail 0 0
   turned =
       let u : Undoable b.config.vars b.trail.vars 0 =
-      record { within = omega (arith, starts_at); ordered = omega (arith, starts_at); lits = fills.live.lits }
+      record { within = omega (arith, starts_at); ordered = omega (arith, starts_at); lits = v.lits }
       in
       let k = after_until b.trail 2 0 (omega (arith, one_level)) u in
       rw goes (record { assigned = k.assigned ∙ starts_at; levels = k.levels })
@@ -241,11 +245,11 @@ pub record Row (x s : State) (i : ℕ) : Type 0 where
   pub lit_room : s.clauses.lit_room ≡ x.clauses.lit_room
   pub lined : Lined s.watches i
 
-pub row_begun : {g : Config} {w : List ℕ} {s : State} → Live s → Started g w s → 1 < 2 * g.vars → Row s s 0
+pub row_begun : {g : Config} {w : List ℕ} {s : State} → Started g w s → 1 < 2 * g.vars → Row s s 0
 unfolding evens stored_literals
-row_begun {g} {w} {s} v k h =
+row_begun {g} {w} {s} k h =
     record {
-      live = v;
+      live = live_started k;
       config = refl;
       trail = refl;
       clauses = ap (λ (cs : List (List ℕ)). length cs) (begun-clauses k);
@@ -255,10 +259,10 @@ row_begun {g} {w} {s} v k h =
       lined = record { list = begun_list k h; blockers = λ j b. absurd (not-suc-le-zero b) };
     }
 
-module _ {x s s' : State} {i : ℕ} (a : Ample x) (v : Row x s i) (g : i < 32) (adds : At s' (added s 0 (2 * i + 2) 4)) where
+module _ {x s s' : State} {i : ℕ} (a : Ample x) (v : Row x s i) (g : i < 32) (adds : s' ≡ added s 0 (2 * i + 2) 4) where
   is_added : s' ≡ three s 0 (2 * i + 2) 4
   is_added =
-      adds.value
+      adds
       ∙ rw
       (lt-ltb (length s.clauses.clauses) s.clauses.room (omega (arith, a.room, v.room, v.clauses)), le-leb (stored_literals s.clauses.clauses + 3) s.clauses.lit_room (omega (arith, a.lit_room, v.lit_room, v.literals)), lt-ltb 0 (2 * s.config.vars) (omega (arith, v.live.some)), lt-ltb (2 * i + 2) (2 * s.config.vars) (omega (arith, a.vars, ap (λ (c : Config). c.vars) v.config)))
       refl
@@ -272,7 +276,8 @@ module _ {x s s' : State} {i : ℕ} (a : Ample x) (v : Row x s i) (g : i < 32) (
       let ps : List ℕ = 0 ∷ (2 * i + 2) ∷ 4 ∷ [] in
       let wide : 64 ≤ s.config.vars = omega (arith, a.vars, ap (λ (c : Config). c.vars) v.config) in
       record {
-        live = adds.live;
+        live =
+            rw is_added (live_stored v.live ps (omega (arith, a.room, v.room, v.clauses)) (omega arith) (omega (arith, wide)) (omega (arith, wide)));
         config = ap (λ (t : State). t.config) is_added ∙ v.config;
         trail = ap (λ (t : State). t.trail) is_added ∙ v.trail;
         clauses = ap (λ (t : State). length t.clauses.clauses) is_added ∙ length-append cs (ps ∷ []) ∙ omega (arith, v.clauses);
@@ -334,17 +339,17 @@ module _ {A : Type 0} (m n : ℕ) (refused x : A) where
   long_enough g h = rw (le-ltb m 2114 g, le-ltb n 64 h) refl
 
 -- the watches that were laid out, once the literals ps are on the trail
-module _ {g : Config} {w : List ℕ} {s a b : State} (ps : List ℕ) (k : Started g w s) (row : Row s a 32) (fills : At b (filled a ps)) where
+module _ {g : Config} {w : List ℕ} {s a b : State} (ps : List ℕ) (k : Started g w s) (row : Row s a 32) (fills : b ≡ filled a ps) where
   pub lined_filled : Lined b.watches 32
   lined_filled =
-      let same : b.watches ≡ a.watches = ap (λ (t : State). t.watches) fills.value ∙ filled_keeps (λ t. t.watches) (λ t p. refl) a ps in
+      let same : b.watches ≡ a.watches = ap (λ (t : State). t.watches) fills ∙ filled_keeps (λ t. t.watches) (λ t p. refl) a ps in
       record {
         list = ap (λ (s : Watches). list_of s 1) same ∙ row.lined.list;
         blockers = subst (λ (s : Watches). BlocksTo s.blockers 32) (sym same) row.lined.blockers;
       }
 
   pub config_filled : b.config ≡ g
-  config_filled = ap (λ (t : State). t.config) fills.value ∙ filled_keeps (λ t. t.config) (λ t p. refl) a ps ∙ row.config ∙ k.config
+  config_filled = ap (λ (t : State). t.config) fills ∙ filled_keeps (λ t. t.config) (λ t p. refl) a ps ∙ row.config ∙ k.config
 
   pub hits-filled : 33 ≤ g.vars → length ps ≤ g.vars → hits b (list_of b.watches 1) ≡ trues (signs g.vars (replicate g.vars l_undef) ps) 32
   hits-filled wide h =
@@ -352,6 +357,6 @@ module _ {g : Config} {w : List ℕ} {s a b : State} (ps : List ℕ) (k : Starte
       let vars : a.config.vars ≡ g.vars = ap (λ (c : Config). c.vars) (row.config ∙ k.config) in
       let values : a.trail.vars.values ≡ replicate g.vars l_undef = ap (λ (t : Assignment). t.vars.values) row.trail ∙ begun_values k in
       let e : b.trail.vars.values ≡ signs g.vars (replicate g.vars l_undef) ps =
-      ap (λ (t : State). t.trail.vars.values) fills.value ∙ filled_values a ps (omega (arith, none, vars)) ∙ ap₂ (λ (m : ℕ) (vs : List ℕ). signs m vs ps) vars values
+      ap (λ (t : State). t.trail.vars.values) fills ∙ filled_values a ps (omega (arith, none, vars)) ∙ ap₂ (λ (m : ℕ) (vs : List ℕ). signs m vs ps) vars values
       in
       hits_lined b 32 lined_filled (omega (arith, ap (λ (c : Config). c.vars) config_filled)) ∙ ap (λ (vs : List ℕ). trues vs 32) e

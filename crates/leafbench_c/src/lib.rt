@@ -1,4 +1,5 @@
 // The measured loops for C and Rust: what bench/leaf/leaf.rs declares. Each function is leafbench's of the same name, and says what that one says.
+// A crate is a library or a static library, so what C calls stands in a crate of its own.
 #![tactic(auto)]
 
 ghost use Rattle.std.specs.Prelude.{◌≡◌, length};

@@ -13,6 +13,7 @@ use Rattle.assign.proofs.Learn.{learn_unit, learn_cases}
 use Rattle.learning.specs.FirstUip.{Conflict}
 use Rattle.learning.specs.Analyzed.{Analyzed}
 use Rattle.learning.proofs.Analyzed.{analyze_law}
+use Rattle.options.specs.Numbers.{phase_number}
 use Rattle.state.specs.declared.Config.{Config}
 use Rattle.state.specs.declared.State.{State}
 use Rattle.state.specs.Still.{Still, Has, Beside, state_at, config_of}
@@ -153,7 +154,7 @@ module _ (s : State) (level : ℕ) (p : Backable s level) where
                 ap (λ (c : List ℕ). add_learnt_and_backtrack (config_of s.config) (state_at s) c level) all_is
                 ∙ learn_stored (config_of s.config) (state_at s) (uip_in s) level (get_or b 1 0) (drop 2 b)
                 (ap (has_room (config_of s.config) (state_at s).store) (sym all_is) ∙ room_is ∙ o)
-                ∙ ap (λ (y : List ℕ). some (with_learnt s.config.phase (state_at s) level (uip_in s) y)) (sym rest_cons);
+                ∙ ap (λ (y : List ℕ). some (with_learnt (phase_number s.config.phase) (state_at s) level (uip_in s) y)) (sym rest_cons);
             has = v;
             beside = d;
           }

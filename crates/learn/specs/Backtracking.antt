@@ -15,6 +15,7 @@ use Rattle.assign.proofs.Back.{cancel_assignment}
 use Rattle.assign.specs.Learn.{Asserting, with_unit, with_learnt}
 use Rattle.assign.proofs.Learn.{uip_range, uip-unset, unit_formed, learnt_formed, room_index}
 use Rattle.watching.proofs.Attach.{attach_stored}
+use Rattle.options.specs.Numbers.{phase_number}
 use Rattle.trail.specs.View.{Assignment, enqueued}
 use Rattle.scratch.specs.declared.Scratch.{Scratch}
 use Rattle.state.specs.declared.State.{State}
@@ -35,8 +36,12 @@ pub record Unit (s : State) : Type 0 where
   pub some : 1 ≤ length s.scratch.buffer.items
   pub asserting : Asserting (state_at s).vars 0 (uip_in s) []
 
+-- the state on another level
+abbrev back : State → ℕ → ms.State
+back s level = cancel_until (phase_number s.config.phase) (state_at s) level
+
 abbrev pub unit_of : State → ms.State
-unit_of s = with_unit s.config.phase (state_at s) (uip_in s)
+unit_of s = with_unit (phase_number s.config.phase) (state_at s) (uip_in s)
 
 -- the buffer's literals may be stored, and then the first one set, after the way back to `level`
 pub record Learnable (s : State) (level : ℕ) : Type 0 where
@@ -47,7 +52,7 @@ pub record Learnable (s : State) (level : ℕ) : Type 0 where
   pub room : has_room (config_of s.config) (state_at s).store s.scratch.buffer.items ≡ true
 
 abbrev pub learnt_at : State → ℕ → ms.State
-learnt_at s level = with_learnt s.config.phase (state_at s) level (uip_in s) (drop 1 s.scratch.buffer.items)
+learnt_at s level = with_learnt (phase_number s.config.phase) (state_at s) level (uip_in s) (drop 1 s.scratch.buffer.items)
 
 -- ---- another assignment
 
@@ -84,20 +89,20 @@ still_trail s t z i f =
 -- ---- after the way back
 
 module _ (s : State) (k : Still s) (level : ℕ) (uip : ℕ) (rest : List ℕ) (a : Asserting (state_at s).vars level uip rest)
-    (s₁ : State) (e : Has s₁ (cancel_until s.config.phase (state_at s) level)) (b : Beside s s₁) where
+    (s₁ : State) (e : Has s₁ (back s level)) (b : Beside s s₁) where
   -- the literal can be set
   pub back_room : length s₁.trail.vars.trail < length s₁.trail.vars.values
   back_room =
       rw e.still.sized.values
       (rw b.config
       (subst (λ (y : ms.State). length y.vars.trail < s.config.vars) (sym e.state)
-      (trail_room (cancel_assignment s.config.phase (state_at s) level k.formed.vars) uip (uip_range k.formed.vars a)
-      (uip-unset s.config.phase (state_at s) level k.formed.vars uip a))))
+      (trail_room (cancel_assignment (phase_number s.config.phase) (state_at s) level k.formed.vars) uip (uip_range k.formed.vars a)
+      (uip-unset (phase_number s.config.phase) (state_at s) level k.formed.vars uip a))))
 
   pub back_var : var uip < length s₁.trail.vars.values
   back_var = rw (e.still.sized.values, b.config) (var_range uip s.config.vars (uip_range k.formed.vars a))
 
-module _ (s : State) (p : Unit s) (s₁ : State) (e : Has s₁ (cancel_until s.config.phase (state_at s) 0)) (b : Beside s s₁) where
+module _ (s : State) (p : Unit s) (s₁ : State) (e : Has s₁ (back s 0)) (b : Beside s s₁) where
   unit_state : state_at (with_trail s₁ (enqueued s₁.trail (uip_in s) no_reason)) ≡ unit_of s
   unit_state = ap (λ (y : ms.State). ms.with_vars y (unchecked_enqueue y.vars (uip_in s) no_reason)) e.state
 
@@ -136,7 +141,7 @@ module _ (s : State) (level : ℕ) (q : Learnable s level) where
   literal_range : (i : ℕ) → i < length c → get_or c i 0 < 2 * s.config.vars
   literal_range i k = q.proper.range _ (get_or_in c i 0 k)
 
-  module _ (s₁ : State) (e : Has s₁ (cancel_until s.config.phase (state_at s) level)) (b : Beside s s₁) (ek : s₁.clauses ≡ s.clauses) where
+  module _ (s₁ : State) (e : Has s₁ (back s level)) (b : Beside s s₁) (ek : s₁.clauses ≡ s.clauses) where
     same_buffer : s₁.scratch.buffer.items ≡ c
     same_buffer = ap (λ (x : Scratch). x.buffer.items) b.scratch
 
@@ -155,7 +160,7 @@ module _ (s : State) (level : ℕ) (q : Learnable s level) where
         }
 
     module _ (s₂ : State) (o : Added s₁ s₂) where
-      stored_state : state_at s₂ ≡ ms.with_store (cancel_until s.config.phase (state_at s) level) (attach_clause (cancel_until s.config.phase (state_at s) level).store (uip_in s ∷ drop 1 c))
+      stored_state : state_at s₂ ≡ ms.with_store (back s level) (attach_clause (back s level).store (uip_in s ∷ drop 1 c))
       stored_state =
           o.state
           ∙ ap (λ (y : List ℕ). ms.with_store (state_at s₁) (attach_clause (state_at s₁).store y)) (same_buffer ∙ clause_is)
@@ -192,8 +197,8 @@ module _ (s : State) (level : ℕ) (q : Learnable s level) where
         learnt_state : state_at (with_trail s₂ (enqueued s₂.trail (uip_in s) from)) ≡ learnt_at s level
         learnt_state =
             ap (λ (y : ms.State). ms.with_vars y (unchecked_enqueue y.vars (uip_in s) from)) stored_state
-            ∙ ap (λ (y : ℕ). ms.with_vars (ms.with_store (cancel_until s.config.phase (state_at s) level) (attach_clause (cancel_until s.config.phase (state_at s) level).store (uip_in s ∷ drop 1 c)))
-            (unchecked_enqueue (cancel_until s.config.phase (state_at s) level).vars (uip_in s) y)) ef
+            ∙ ap (λ (y : ℕ). ms.with_vars (ms.with_store (back s level) (attach_clause (back s level).store (uip_in s ∷ drop 1 c)))
+            (unchecked_enqueue (back s level).vars (uip_in s) y)) ef
 
         pub learnt_has : Has (with_trail s₂ (enqueued s₂.trail (uip_in s) from)) (learnt_at s level)
         learnt_has =

@@ -16,6 +16,7 @@ use Rattle.learning.specs.Walk.{Stop}
 use Rattle.learning.specs.Minimise.{Minimisable}
 use Rattle.learning.proofs.Minimise.{minimize_sub, sub_in}
 use Rattle.learning.proofs.Analyzed.{minimisable}
+use Rattle.options.specs.Numbers.{mode_number}
 use Rattle.trail.specs.View.{LitsOf}
 use Rattle.scratch.specs.declared.Scratch.{Scratch}
 use Rattle.scratch.specs.Row.{Row}
@@ -148,7 +149,7 @@ module _ (s : State) (a : Activity) (confl : ℕ) (p : Conflicting s a confl) wh
 
     module _ (t : State) (m : Reduced (with_scratch s x) t) where
       abbrev left : List ℕ
-      left = minimize_conflict s.config.mode (state_at s).store (state_at s).vars (drop 1 k.learnt) k.seen
+      left = minimize_conflict (mode_number s.config.mode) (state_at s).store (state_at s).vars (drop 1 k.learnt) k.seen
 
       reduced_is : t.scratch.buffer.items ≡ get_or k.learnt 0 0 ∷ left
       reduced_is = rw (clause_is, seen_is) at m.clause
@@ -157,7 +158,7 @@ module _ (s : State) (a : Activity) (confl : ℕ) (p : Conflicting s a confl) wh
       left_lits i b =
           let q = get_or left i 0 in
           let j : q ∈ drop 1 k.learnt =
-          sub_in (minimize_sub s.config.vars (state_at s).store (state_at s).vars (drop 1 k.learnt) k.seen goes s.config.mode) q (get_or_in left i 0 b) in
+          sub_in (minimize_sub s.config.vars (state_at s).store (state_at s).vars (drop 1 k.learnt) k.seen goes (mode_number s.config.mode)) q (get_or_in left i 0 b) in
           subst (λ (v : ℕ). v < s.config.vars) (var-neg q) (trail_var p.conflict.assignment (neg q) (goes.falsified q j))
 
       -- what the change of places asks

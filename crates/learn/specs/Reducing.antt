@@ -3,6 +3,7 @@ use Rattle.std.specs.Prelude.{ℕ, ◌≤◌, ◌≡◌, refl, ◌≢◌, List, 
 use Rattle.std.proofs.Common.{arith, sym, ap, ◌∙◌}
 use Rattle.model.specs.Minimise.{minimize_conflict}
 use Rattle.learning.proofs.Minimise.{minimize_keeps}
+use Rattle.options.specs.Numbers.{mode_number}
 use Rattle.scratch.specs.declared.Scratch.{Scratch}
 use Rattle.scratch.specs.View.{with_marks}
 use Rattle.watch.specs.Meaning.{as_watches}
@@ -31,7 +32,7 @@ pub record Reduced (s s' : State) : Type 0 where
   pub marks : s'.scratch.marks ≡ replicate (length s.trail.vars.values) 0
   pub most : length s'.scratch.buffer.items ≤ length s.scratch.buffer.items
   pub clause : s'.scratch.buffer.items ≡ get_or s.scratch.buffer.items 0 0
-      ∷ minimize_conflict s.config.mode (state_at s).store s.trail.vars (drop 1 s.scratch.buffer.items) s.scratch.marks
+      ∷ minimize_conflict (mode_number s.config.mode) (state_at s).store s.trail.vars (drop 1 s.scratch.buffer.items) s.scratch.marks
 
 pub head_first : (b : List ℕ) → 1 ≤ length b → b ≡ get_or b 0 0 ∷ drop 1 b
 head_first [] o = absurd (omega arith)
@@ -39,7 +40,7 @@ head_first (q ∷ b) o = refl
 
 module _ (s : State) (p : Reducible s) where
   -- mode 2
-  pub reduced_by : (x : Scratch) → s.config.mode ≡ 2 → Minimised s.trail s.clauses s.scratch x → Reduced s (with_scratch s x)
+  pub reduced_by : (x : Scratch) → mode_number s.config.mode ≡ 2 → Minimised s.trail s.clauses s.scratch x → Reduced s (with_scratch s x)
   reduced_by x e m =
       record {
         beside = refl;
@@ -50,7 +51,7 @@ module _ (s : State) (p : Reducible s) where
       }
 
   -- the other modes keep all
-  pub reduced_none : (ms : List ℕ) → s.config.mode ≢ 2 → ms ≡ replicate (length s.scratch.marks) 0 → Reduced s (with_scratch s (with_marks s.scratch ms))
+  pub reduced_none : (ms : List ℕ) → mode_number s.config.mode ≢ 2 → ms ≡ replicate (length s.scratch.marks) 0 → Reduced s (with_scratch s (with_marks s.scratch ms))
   reduced_none ms ne e =
       record {
         beside = refl;
@@ -60,5 +61,5 @@ module _ (s : State) (p : Reducible s) where
         clause =
             head_first s.scratch.buffer.items p.some
             ∙ ap (λ (y : List ℕ). get_or s.scratch.buffer.items 0 0 ∷ y)
-            (sym (minimize_keeps s.config.mode ne (state_at s).store s.trail.vars (drop 1 s.scratch.buffer.items) s.scratch.marks));
+            (sym (minimize_keeps (mode_number s.config.mode) ne (state_at s).store s.trail.vars (drop 1 s.scratch.buffer.items) s.scratch.marks));
       }

@@ -9,17 +9,15 @@ ghost use Rattle.learn.specs.Backtracking.{Unit, Learnable, unit_of, learnt_at};
 ghost use Rattle.learn.specs.Adding.{Backable, Backs};
 
 use activity::Activities;
+use options::Mode;
 use state::State;
-
-// The mode in which a clause is minimised.
-const MINIMISING: u32 = 2;
 
 // What the mode leaves of the literals in the buffer. Every mark is taken back.
 fn reduce(s: &mut State)
     requires { Reducible s.old }
     ensures { Reduced s.old s.new }
 {
-    if s.config.mode == MINIMISING {
+    if s.config.mode == Mode::Minimise {
         minimise::minimise(&s.trail, &s.clauses, &mut s.scratch);
     } else {
         let x = &mut s.scratch;

@@ -1,7 +1,8 @@
--- The set: its members in order, and every cell; and how two slices hold it.
+-- The set: its members in order, and every cell; and how a slice and a list hold it.
 use Rattle.std.specs.Prelude.{ℕ, ◌≤◌, ◌<◌, ◌≡◌, Bool, true, false, List, [], ◌∷◌, length, get_or, set, take, replicate}
 use Rattle.std.proofs.lemmas.List.Edits.{sets}
 use Rattle.model.specs.Final.{mem, insert}
+use Rattle.scratch.specs.Row.{Row}
 
 -- the members in order of insertion; the flag of each literal; the cells for members, those past the last member too
 pub record Members : Type 0 where
@@ -50,12 +51,12 @@ pub record Sound (s : Members) : Type 0 where
   pub first : s.items ≡ take (length s.items) s.item_cells
   pub marks : (l : ℕ) → get_or s.flag_cells l 0 ≡ flag (mem l s.items)
 
--- ---- the cells
+-- ---- the fields
 
--- the first n cells are the members
-abbrev pub members : List ℕ → List ℕ → ℕ → Members
-members flags cells n = record { items = take n cells; flag_cells = flags; item_cells = cells }
+-- the flags, and the list of the members
+abbrev pub members : List ℕ → Row → Members
+members flags r = record { items = r.items; flag_cells = flags; item_cells = r.cells }
 
-pub record Rep (flags cells : List ℕ) (n : ℕ) : Type 0 where
-  pub fits : n ≤ length cells
-  pub marks : (l : ℕ) → get_or flags l 0 ≡ flag (mem l (take n cells))
+-- the flags of the members are set, and no other
+pub record Rep (flags items : List ℕ) : Type 0 where
+  pub marks : (l : ℕ) → get_or flags l 0 ≡ flag (mem l items)

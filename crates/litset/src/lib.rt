@@ -2,17 +2,17 @@
 #![tactic(auto)]
 
 ghost use Rattle.std.specs.Prelude.{◌≡◌, ◌<◌, [], length, get_or, replicate};
-ghost use Rattle.litset.specs.View.{inserted, emptied, Insertable, Sound};
+ghost use Rattle.litset.specs.View.{inserted, emptied, Insertable, Sound, Rep};
 
 use clause::Lit;
+use scratch::Lits;
 use std::marker::Model;
 
-// `flags` has a cell for each literal, which is 1 for a member and else 0. The members stand in the first `count` cells of `items`.
+// `flags` has a cell for each literal, which is 1 for a member and else 0. A slice beside the list: there is no heap, and a look-up is one cell.
 #[derive(Drop)]
 pub struct LitSet<'a> {
     flags: &'a mut [u32],
-    items: &'a mut [u32],
-    count: usize,
+    items: Lits<'a>,
 }
 
 impl<'a> Model for LitSet<'a> {
@@ -20,9 +20,9 @@ impl<'a> Model for LitSet<'a> {
 
     ghost Value = { Members };
 
-    ghost view = { λ s. members s.flags.now s.items.now s.count };
+    ghost view = { λ s. members s.flags.now s.items };
 
-    ghost invariant = { λ s. Rep s.flags.now s.items.now s.count };
+    ghost invariant = { λ s. Rep s.flags.now s.items.items };
 }
 
 impl<'a> LitSet<'a> {
@@ -33,8 +33,7 @@ impl<'a> LitSet<'a> {
         flags.fill(0);
         LitSet {
             flags,
-            items,
-            count: 0,
+            items: Lits::new(items),
         }
     }
 
@@ -42,7 +41,7 @@ impl<'a> LitSet<'a> {
     pub fn sound(&self)
         ensures { Sound self.now }
     {
-        let _ = &self.items;
+        self.items.sound();
     }
 
     // Adds l, unless it is a member.
@@ -55,14 +54,13 @@ impl<'a> LitSet<'a> {
             return;
         }
         self.flags[at] = 1;
-        self.items[self.count] = l.0;
-        self.count += 1;
+        self.items.push(l);
     }
 
     pub fn len(&self) -> usize
         ensures { result ≡ length self.now.items }
     {
-        self.count
+        self.items.len()
     }
 
     // The member that was put in i-th.
@@ -70,25 +68,31 @@ impl<'a> LitSet<'a> {
         requires { i < length self.now.items }
         ensures { result.0 ≡ get_or self.now.items i 0 }
     {
-        Lit(self.items()[i])
+        self.items.at(i)
     }
 
     // The members, in order.
     pub fn items(&self) -> &[u32]
         ensures { result.now ≡ self.now.items }
     {
-        &self.items[..self.count]
+        self.items.items()
     }
 
     // Removes every member.
     pub fn clear(&mut self)
         ensures { self.new ≡ emptied (length self.old.flag_cells) self.old }
     {
-        // By its index: a loop over `items` would lend `self`, and `flags` could not be written.
-        for i in 0..self.count {
-            let l = self.items[i] as usize;
-            self.flags[l] = 0;
-        }
-        self.count = 0;
+        unflag(self.flags, self.items.items());
+        self.items.clear();
+    }
+}
+
+// The flags of the members are taken back: then none is set.
+fn unflag(flags: &mut [u32], items: &[u32])
+    requires { Rep flags.old items.now }
+    ensures { flags.new ≡ replicate (length flags.old) 0 }
+{
+    for l in items {
+        flags[*l as usize] = 0;
     }
 }

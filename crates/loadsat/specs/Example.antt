@@ -1,49 +1,13 @@
 -- Document 01's example of the bench program, run by the definitions.
 use Rattle.std.specs.Prelude.{◌≡◌, refl, List, ℕ}
 use Rattle.model.specs.Exec.{out_of}
-use Rattle.model.specs.Script.{limits, trailing}
 use Rattle.text.specs.Bytes.{bytes}
-use Rattle.text.specs.Split.{push, pieces, starts}
-use Rattle.text.specs.Number.{digit, digits, decimal, signed, literal, digits_of, shown, shown_literal}
-use Rattle.text.specs.Number as Number
-use Rattle.text.specs.Format.{
-  one_more,
-  literals,
-  record_of,
-  clause_words,
-  clause_cells,
-  solve_cells,
-  value_cells,
-  with_sizes,
-  record_cells,
-  line_cells,
-  fitting,
-  read_lines,
-  read_text,
-  lines_from,
-}
-use Rattle.text.specs.Answers.{
-  numbered,
-  printed_refusal,
-  item,
-  spaced,
-  listed,
-  verdict,
-  body_key,
-  body,
-  printed_solve,
-  printed_clause,
-  printed_record,
-  answer_cells,
-  kinds,
-  printed_records,
-  printed,
-}
-use Rattle.loadsat.specs.Bench.{answered, shown as shown_for, output}
+use Rattle.text.specs.Computes.{read, print}
+use Rattle.loadsat.specs.Bench.{answered, shown, output}
 
 -- `output`, unfolded
 writes : List ℕ → List ℕ
-unfolding out_of push pieces starts Number.fitting digit digits decimal signed literal one_more literals record_of clause_words clause_cells solve_cells value_cells with_sizes record_cells line_cells fitting read_lines read_text lines_from digits_of shown shown_literal numbered printed_refusal item spaced listed verdict body_key body printed_solve printed_clause printed_record answer_cells limits trailing kinds printed_records printed answered shown_for output
+unfolding out_of read print answered shown output
 writes input = output input
 
 example : writes (bytes "vars=2\nmode=2\nphase=2\nunit=100\nclause=1 2\nclause=-1 2\nsolve=1000\nsolve=1000 -2\n")

@@ -21,8 +21,6 @@ use Rattle.text.specs.WriteLaws.{Written}
 use Rattle.text.specs.FormatLaws.{over}
 use Rattle.text.specs.ReadLaws as read
 use Rattle.text.specs.declared.reading.Script.{Script}
-use Rattle.refusal.specs.declared.Refusal.{Refusal}
-use Rattle.refusal.specs.Number.{number}
 use Rattle.loadsat.specs.Bench.{answered, shown, output, Printed}
 
 -- ---- there is room for all of it
@@ -31,9 +29,6 @@ use Rattle.loadsat.specs.Bench.{answered, shown, output, Printed}
 pub small : (xs : List ℕ) → ((k : ℕ) → Fits w32 (get_or xs k 0)) → Small xs
 unfolding Small
 small xs f k = omega (arith, f k)
-
-pub no_longer : {m n k : ℕ} → n ≡ k → k ≤ m → n ≤ m
-no_longer e h = omega (arith, e, h)
 
 pub whole : {before xs after : List ℕ} {r : ℕ} (ys : List ℕ) → max_bytes ≤ length before → Written before 0 xs after r → length xs ≤ max_bytes → xs ≡ ys
     → Printed before ys after r
@@ -64,9 +59,9 @@ module _ {s w : List ℕ} {a : List Float} {o w' : List ℕ} {a' : List Float} {
   pub run_refused : (f : Refusal) → r ≡ Err f → printed_refusal (number f.rule) f.place ≡ answered s (after s w a o)
   run_refused f e = sym (answered_refused s (after s w a o) (number f.rule) f.place (sym (ap answer_of e) ∙ p.answer))
 
-  pub run_ran : (n : ℕ) (lines : List ℕ) → r ≡ Ok n → lines ≡ record_lines max_cells → printed s lines o' ≡ answered s (after s w a o)
-  run_ran n lines e l =
-      ap (λ (ls : List ℕ). printed s ls o') l ∙ ap (printed s (record_lines max_cells)) p.out
+  pub run_ran : (n : ℕ) → r ≡ Ok n → printed s (record_lines max_cells) o' ≡ answered s (after s w a o)
+  run_ran n e =
+      ap (printed s (record_lines max_cells)) p.out
       ∙ sym (answered_ran s (after s w a o) n (sym (ap answer_of e) ∙ p.answer))
 
 -- ---- the text as it is read

@@ -3,12 +3,11 @@
 
 ghost use Rattle.std.specs.Prelude.{◌≤◌, ◌<◌, ◌≡◌, length, take, IfSome, IfOk, IfErr, OnOk};
 ghost use Rattle.std.specs.Io.KnownBytes.{Keeps, Appends};
-ghost use Rattle.model.specs.Run.{after};
 ghost use Rattle.text.specs.Limits.{max_cells, max_bytes};
 ghost use Rattle.refusal.specs.Number.{number};
-ghost use Rattle.text.specs.Format.{read_text};
-ghost use Rattle.text.specs.Answers.{printed_refusal};
-ghost use Rattle.loadsat.specs.Bench.{answered, shown, output, Printed};
+ghost use Rattle.text.specs.Format.{read_text, record_lines};
+ghost use Rattle.text.specs.Answers.{printed_refusal, printed};
+ghost use Rattle.loadsat.specs.Bench.{shown, output, Printed};
 ghost use Rattle.loadsat.specs.Responses.{IfUnread};
 
 use refusal::Refusal;
@@ -16,54 +15,37 @@ use std::io;
 use std::io::{Read, Write};
 use text::{complain, filled};
 
-// Why a text or a script is turned back.
-fn refused(refusal: Refusal, text: &mut [u8]) -> usize
-    requires { max_bytes ≤ length text.old }
-    ensures { Printed text.old (printed_refusal (number refusal.rule) refusal.place) text.new result }
+// What `out` holds for the records of a script, each of which stands on a line of its text. That `text` has room for the longest answers is asked,
+// here and below: it is lent, and no type says how long a lent slice is.
+fn print(script: &[u32], out: &[u32], text: &mut [u8]) -> usize
+    requires { (length script.now ≤ max_cells) × (length out.now ≤ max_cells) × (max_bytes ≤ length text.old) }
+    ensures { Printed text.old (printed script.now (record_lines max_cells) out.now) text.new result }
 {
-    text::print_refusal(refusal.rule.number(), refusal.place, text)
+    let mut lines = filled::<u32, 16384>(0);
+    text::number_lines(&mut lines);
+    text::print(script, &lines, out, text)
 }
 
-// A script's answers; `lines` is for the line of each record.
-fn run(
-    script: &[u32],
-    lines: &mut [u32],
-    work: &mut [u32],
-    activities: &mut [f64],
-    out: &mut [u32],
-    text: &mut [u8],
-) -> usize
-    requires lines_len { length lines.old ≡ max_cells }
-    requires script_len_bound { (length script.now ≤ max_cells) × (length out.old ≤ max_cells) × (max_bytes ≤ length text.old) }
-    ensures { Printed text.old (answered script.now (after script.now work.old activities.old out.old)) text.new result }
-{
-    match engine::run(script, work, activities, out) {
-        Err(refusal) => refused(refusal, text),
-        Ok(_) => {
-            text::number_lines(lines);
-            text::print(script, lines, out, text)
-        }
-    }
+// The cells that a text is run in, with room for 128 variables, 512 clauses and 4,096 literals.
+#[derive(Drop)]
+struct Workspace {
+    script: [u32; 16384],
+    work: [u32; 12352],
+    activities: [f64; 128],
+    out: [u32; 16384],
 }
 
-// A text's answers; `script` is for its script.
-fn answer(
-    input: &[u8],
-    script: &mut [u32],
-    lines: &mut [u32],
-    work: &mut [u32],
-    activities: &mut [f64],
-    out: &mut [u32],
-    text: &mut [u8],
-) -> usize
-    requires script_len { length script.old ≡ max_cells }
-    requires lines_len { length lines.old ≡ max_cells }
-    requires out_len_bound { (length out.old ≤ max_cells) × (max_bytes ≤ length text.old) }
-    ensures { Printed text.old (shown work.old activities.old out.old (read_text max_cells input.now)) text.new result }
-{
-    match text::read(input, script) {
-        Err(refusal) => refused(refusal, text),
-        Ok(read) => run(&script[..read.cells], lines, work, activities, out, text),
+impl Workspace {
+    // A text's answers, or why it or its script is turned back.
+    fn answer(&mut self, input: &[u8], text: &mut [u8]) -> Result<usize, Refusal>
+        requires { max_bytes ≤ length text.old }
+        ensures answers { IfOk result (λ n. Printed text.old (shown self.old.work self.old.activities self.old.out (read_text max_cells input.now)) text.new n) }
+        ensures refusal { IfErr result (λ f. (text.new ≡ text.old) × (printed_refusal (number f.rule) f.place ≡ shown self.old.work self.old.activities self.old.out (read_text max_cells input.now))) }
+    {
+        let read = text::read(input, &mut self.script)?;
+        let script = &self.script[..read.cells];
+        engine::run(script, &mut self.work, &mut self.activities, &mut self.out)?;
+        Ok(print(script, &self.out, text))
     }
 }
 
@@ -72,23 +54,20 @@ fn bench(input: &[u8], text: &mut [u8]) -> usize
     requires { max_bytes ≤ length text.old }
     ensures { Printed text.old (output input.now) text.new result }
 {
-    let mut script = filled::<u32, 16384>(0);
-    let mut lines = filled::<u32, 16384>(0);
-    let mut work = filled::<u32, 12352>(0);
-    let mut activities = filled::<f64, 128>(0.0);
-    let mut out = filled::<u32, 16384>(0);
-    answer(
-        input,
-        &mut script,
-        &mut lines,
-        &mut work,
-        &mut activities,
-        &mut out,
-        text,
-    )
+    let mut workspace = Workspace {
+        script: filled(0),
+        work: filled(0),
+        activities: filled(0.0),
+        out: filled(0),
+    };
+    match workspace.answer(input, text) {
+        Ok(n) => n,
+        Err(refusal) => text::print_refused(refusal, text),
+    }
 }
 
 // Reads to the input's end, or until the slice is full: how many bytes. What came before a read that fails is no input.
+// By hand, since `read_to_end` fills a Vec, and there is no heap.
 fn read_all<R: Read>(from: &mut R, input: &mut [u8]) -> io::Result<usize>
     ensures within { IfOk result (λ n. n ≤ length input.new) }
     ensures bytes { IfSome (R.remaining from.old) (λ xs. IfOk result (λ n. take n input.new ≡ take (length input.new) xs)) }
@@ -112,6 +91,7 @@ enum Failure {
 }
 
 impl Failure {
+    // The sentences are told to people: no clause says them again.
     fn message(self) -> &'static str {
         match self {
             Failure::Unread =>

@@ -7,7 +7,8 @@ ghost use Rattle.luby.specs.Laws.{Beginning, Climbed, Term};
 
 mod terms;
 
-// A beginning of the sequence of `size` = 2 ^ (seq + 1) - 1 terms.
+// A beginning of the sequence of `size` = 2 ^ (seq + 1) - 1 terms. That a term is one of the first 131,072 is asked of its number: a type for this one
+// bound would be no plainer.
 #[derive(Clone, Copy)]
 struct Part {
     size: u32,
@@ -22,6 +23,7 @@ impl Part {
     {
         let mut size: u32 = 1;
         let mut seq: u32 = 0;
+        // No index is counted: the sizes go up to the first that is above x.
         while size <= x {
             size = 2 * size + 1;
             seq += 1;
@@ -36,6 +38,7 @@ impl Part {
     {
         let Part { mut size, mut seq } = self;
         let mut y = x;
+        // And down again to the size that ends with what is left of x.
         while size - 1 != y {
             size = (size - 1) / 2;
             seq -= 1;

@@ -1,7 +1,6 @@
 -- What minimising asks of the clause in the buffer, and what it leaves.
 use Rattle.std.specs.Prelude.{ℕ, ◌+◌, ◌≤◌, ◌<◌, ◌≡◌, List, [], ◌∷◌, ◌++◌, length, get_or, drop, replicate}
-use Rattle.std.proofs.Common.{arith, ap, sym, subst, ◌∙◌, length-drop, length-append}
-use Rattle.std.proofs.lemmas.List.{append-nil, drop_all}
+use Rattle.std.proofs.Common.{arith, ap, sym, subst, ◌∙◌}
 use Rattle.model.specs.Lit.{var, neg}
 use Rattle.model.specs.State.{Watch, Store, VarState}
 use Rattle.model.specs.Minimise.{abstract_levels, minimize_conflict}
@@ -45,12 +44,6 @@ minimisable_in h ws = record { assignment = h.assignment; falsified = h.falsifie
 
 -- ---- the notes of the clause
 
--- the literals before place i are noted
-pub record Copying (s s' : Scratch) (i : ℕ) : Type 0 where
-  pub same : s' ≡ with_notes s s'.notes
-  pub cells : length s'.notes.cells ≡ length s.notes.cells
-  pub noted : s'.notes.items ++ drop i s.buffer.items ≡ drop 1 s.buffer.items
-
 module _ {a : Assignment} {c : Clauses} {s : Scratch} (p : Ready a c s) where
   abbrev n : ℕ
   n = length a.vars.values
@@ -68,31 +61,23 @@ module _ {a : Assignment} {c : Clauses} {s : Scratch} (p : Ready a c s) where
   pub ready_var : (i : ℕ) → i < length ls → var (get_or ls i 0) < n
   ready_var i h = of_trail (get_or ls i 0) (at_in ls i h)
 
-  pub copying_room : {s' : Scratch} {i : ℕ} → Copying s s' i → i < length s.buffer.items → length s'.notes.items < length s'.notes.cells
-  copying_room {s'} {i} g b =
-      let e : length s'.notes.items + length (drop i s.buffer.items) ≡ length ls =
-      sym (length-append s'.notes.items (drop i s.buffer.items)) ∙ ap (λ (xs : List ℕ). length xs) g.noted
-      in
-      omega (arith, e, length-drop i s.buffer.items, fits, g.cells, p.notes)
+  pub ready_room : length ls ≤ length s.notes.cells
+  ready_room = omega (arith, fits, p.notes)
 
   -- all are noted
-  module _ {u : Scratch} {i : ℕ} (g : Copying s u i) (b : length s.buffer.items ≤ i) where
-    all_noted : u.notes.items ≡ ls
-    all_noted = sym (append-nil u.notes.items) ∙ ap (λ (xs : List ℕ). u.notes.items ++ xs) (sym (drop_all i s.buffer.items b)) ∙ g.noted
-
-    tidy : Tidy n (with_notes s u.notes)
+  module _ {y : Row} (all : y.items ≡ ls) (same : length y.cells ≡ length s.notes.cells) where
+    tidy : Tidy n (with_notes s y)
     tidy =
         record {
           marks = p.clause.marks.sized;
           cells = p.clause.marks.cells;
           stack = p.stack;
-          notes = omega (arith, fits, ap (λ (xs : List ℕ). length xs) all_noted, g.cells, p.notes);
+          notes = omega (arith, fits, ap (λ (xs : List ℕ). length xs) all, same, p.notes);
         }
 
-    pub ready_minimising : Minimising a c u
+    pub ready_minimising : Minimising a c (with_notes s y)
     ready_minimising =
-        subst (λ (x : Scratch). Minimising a c x) (sym g.same)
-        (record {
+        record {
           entries = p.clause.assignment.entries;
           filled = p.filled;
           some = p.some;
@@ -103,29 +88,26 @@ module _ {a : Assignment} {c : Clauses} {s : Scratch} (p : Ready a c s) where
                 seen = p.clause.marks.all q i;
               };
           tidy = tidy;
-        })
+        }
 
-    module _ {mask : ℕ} (em : mask ≡ abstract_levels a.vars 0 ls) {v : Scratch} (k : Shrinks a c u v mask) where
-      shrunk : Shrinks a c (with_notes s u.notes) v mask
-      shrunk = subst (λ (x : Scratch). Shrinks a c x v mask) g.same k
-
+    module _ {mask : ℕ} (em : mask ≡ abstract_levels a.vars 0 ls) {v : Scratch} (shrunk : Shrinks a c (with_notes s y) v mask) where
       made : Made (replicate n 0) v.notes.items v.marks
       made =
           let h = shrunk.going in
-          subst (λ (xs : List ℕ). Made (replicate n 0) xs v.marks) (sym (h.noted ∙ ap (λ (xs : List ℕ). xs ++ h.new) all_noted))
+          subst (λ (xs : List ℕ). Made (replicate n 0) xs v.marks) (sym (h.noted ∙ ap (λ (xs : List ℕ). xs ++ h.new) all))
           (made_then (replicate n 0) ls s.marks h.new v.marks (h.tidy.marks ∙ sym p.clause.marks.sized) (made_clause n s.marks ls p.clause.marks) h.made)
 
       pub ready_noted : Noted v.marks v.notes 0
       ready_noted = record { low = omega arith; range = made.range }
 
-      pub ready_minimised : (m : List ℕ) (y : Row) → Undone v.marks m v.notes y 0 → Minimised a c s (record { marks = m; buffer = v.buffer; stack = v.stack; notes = y })
+      pub ready_minimised : (m : List ℕ) (z : Row) → Undone v.marks m v.notes z 0 → Minimised a c s (record { marks = m; buffer = v.buffer; stack = v.stack; notes = z })
       unfolding minimize_conflict
-      ready_minimised m y d =
+      ready_minimised m z d =
           record {
             marks = d.marks ∙ made.back;
             most = shrunk.most;
             clause = λ ws. rw em at (shrunk.clause ws);
             buffer = shrunk.cells;
             stack = shrunk.going.stack;
-            notes = ap (λ (x : Row). length x.cells) d.notes ∙ shrunk.going.notes ∙ g.cells;
+            notes = ap (λ (x : Row). length x.cells) d.notes ∙ shrunk.going.notes ∙ same;
           }

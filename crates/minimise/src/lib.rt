@@ -1,7 +1,8 @@
-// Rule 4: literals of a learnt clause that follow from the others are dropped.
+// Rule 4: literals of a learnt clause that follow from the others are dropped. As in crate analyze, each function takes of trail, clauses and mask
+// what it reads, and a struct of the three would let each read all.
 #![tactic(auto)]
 
-ghost use Rattle.std.specs.Prelude.{◌≡◌, ◌<◌, length, drop};
+ghost use Rattle.std.specs.Prelude.{◌≡◌, ◌<◌, ◌≤◌, length, drop};
 ghost use Rattle.model.specs.Lit.{var, abstract_level};
 ghost use Rattle.model.specs.Minimise.{abstract_levels};
 ghost use Rattle.trail.specs.View.{LitsOf};
@@ -24,7 +25,7 @@ pub fn abstract_level(level: usize) -> u32
     1 << (level & 31)
 }
 
-// Whether a literal is above level 0 and not marked.
+// Whether a literal is above level 0 and not marked. Rule 3 asks the same (`joins` of crate analyze, which says why twice).
 fn is_open(trail: &Trail, marks: &Marks, l: Lit) -> bool
     requires { (var l.0 < length trail.now.vars.values) × (length marks.now ≡ length trail.now.vars.values) }
     ensures { result ≡ open_lit trail.now.vars marks.now l.0 }
@@ -78,7 +79,8 @@ fn unmark(marks: &mut Marks, notes: &mut Lits, n: usize)
     }
 }
 
-// Traces a literal back: its reason's literals, their reasons' literals, and so on, down to marked ones: whether it follows from these. Where it does not, the marks are as they were.
+// Traces a literal back: its reason's literals, their reasons' literals, and so on, down to marked ones: whether it follows from these.
+// Where it does not, the marks are as they were.
 fn lit_redundant(trail: &Trail, clauses: &Store, scratch: &mut Scratch, mask: u32, l: Lit) -> bool
     requires { Traceable trail.now clauses.now scratch.old l.0 }
     ensures { Tries trail.now clauses.now scratch.old scratch.new mask l.0 result }
@@ -97,14 +99,23 @@ fn lit_redundant(trail: &Trail, clauses: &Store, scratch: &mut Scratch, mask: u3
     true
 }
 
+// The literals behind the buffer's first are noted, and no others.
+fn note_rest(buffer: &Lits, notes: &mut Lits)
+    requires { length (drop 1 buffer.now.items) ≤ length notes.old.cells }
+    ensures items { notes.new.items ≡ drop 1 buffer.now.items }
+    ensures cells { length notes.new.cells ≡ length notes.old.cells }
+{
+    notes.set_all(buffer.rest());
+}
+
 // The levels of the literals behind the buffer's first.
 fn abstract_levels(trail: &Trail, buffer: &Lits) -> u32
     requires { LitsOf (length trail.now.vars.values) (drop 1 buffer.now.items) }
     ensures { result ≡ abstract_levels trail.now.vars 0 (drop 1 buffer.now.items) }
 {
     let mut mask = 0;
-    for i in 1..buffer.len() {
-        mask |= abstract_level(trail.level(buffer.at(i).var()));
+    for l in buffer.rest() {
+        mask |= abstract_level(trail.level(Lit(*l).var()));
     }
     mask
 }
@@ -123,6 +134,7 @@ fn drop_redundant(trail: &Trail, clauses: &Store, scratch: &mut Scratch, mask: u
     ensures { Shrinks trail.now clauses.now scratch.old scratch.new mask }
 {
     let mut kept = 1;
+    // By place: the literals kept are written over those that were read.
     for i in 1..scratch.buffer.len() {
         let l = scratch.buffer.at(i);
         if !is_redundant(trail, clauses, scratch, mask, l) {
@@ -139,11 +151,7 @@ pub fn minimise(trail: &Trail, clauses: &Store, scratch: &mut Scratch)
     ensures { Minimised trail.now clauses.now scratch.old scratch.new }
 {
     let mask = abstract_levels(trail, &scratch.buffer);
-    scratch.notes.clear();
-    for i in 1..scratch.buffer.len() {
-        let l = scratch.buffer.at(i);
-        scratch.notes.push(l);
-    }
+    note_rest(&scratch.buffer, &mut scratch.notes);
     drop_redundant(trail, clauses, scratch, mask);
     unmark(&mut scratch.marks, &mut scratch.notes, 0);
 }

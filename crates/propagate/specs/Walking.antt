@@ -84,27 +84,6 @@ sized_blocks s z t w k r =
       members = z.members;
     }
 
-pub sized_head : (s : State) (q : ℕ) → Sized s → Sized (at_head s q)
-sized_head s q z =
-    record {
-      some = z.some;
-      vars = z.vars;
-      room = z.room;
-      lit_room = z.lit_room;
-      values = z.values;
-      marks = z.marks;
-      buffer = z.buffer;
-      stack = z.stack;
-      notes = z.notes;
-      lists = z.lists;
-      blockers = z.blockers;
-      chains = z.chains;
-      clauses = z.clauses;
-      literals = z.literals;
-      flags = z.flags;
-      members = z.members;
-    }
-
 -- the lists' nodes are those of the blockers
 pub chained : (s : State) → Sized s → Chains (length s.watches.blockers) s.watches.lists
 chained s z = rw z.blockers z.chains
@@ -121,7 +100,7 @@ aside_blocks s z t w k r e = record { sized = sized_blocks s z t w k r; beside =
 
 pub aside_head : (s s' : State) (q : ℕ) → Aside s s' → Aside s (at_head s' q)
 aside_head s s' q a =
-    record { sized = sized_head s' q a.sized; beside = record { config = a.beside.config; scratch = a.beside.scratch; finals = a.beside.finals }; pushed = a.pushed }
+    record { sized = a.sized; beside = record { config = a.beside.config; scratch = a.beside.scratch; finals = a.beside.finals }; pushed = a.pushed }
 
 pub still_aside : (s s' : State) → Still s → Aside s s' → WellFormed (config_of s.config) (state_at s') → Still s'
 still_aside s s' k a f =

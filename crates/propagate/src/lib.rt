@@ -20,6 +20,7 @@ use trail::Trail;
 use watch::{Cursor, Watches};
 
 // A watch on a walk: the literal whose list is walked, the cursor at the watch, and its node.
+// Where it stands in the lists (`At`) depends on them, so it is asked and no invariant.
 #[derive(Clone, Copy)]
 struct Place {
     list: Lit,
@@ -36,8 +37,8 @@ impl Place {
     }
 }
 
-// Clause c gets its false literal f second; f is one of its first two. The other one comes first, and is given back: it is the sum of both less f, so that no test
-// says which of the two is f.
+// Clause c gets its false literal f second; f is one of its first two. The other one comes first, and is given back: it is the sum of both less f:
+// a test which of the two is f would be guessed wrong every second time.
 fn false_second(clauses: &mut Store, c: usize, f: Lit) -> Lit
     requires { Paired f.0 (clause_of clauses.old c) }
     ensures clauses { clauses.new ≡ put_clause clauses.old c (false_second f.0 (clause_of clauses.old c)) }
@@ -58,6 +59,7 @@ fn new_watch(trail: &Trail, clause: &[u32]) -> Option<usize>
     requires { LitsOf (length trail.now.vars.values) clause.now }
     ensures { result ≡ new_watch trail.now.vars.values 2 (drop 2 clause.now) }
 {
+    // By place, since the place is what is sought; `position` in the rest would give one that is two less.
     for k in 2..clause.len() {
         if !trail.is_false(Lit(clause[k])) {
             return Some(k);
@@ -180,6 +182,7 @@ pub fn propagate(s: &mut State) -> Option<usize>
     requires { Still s.old }
     ensures { Gives s.old s.new (propagate s.old.config.vars (state_at s.old)) result }
 {
+    // No `for`: what a turn assigns joins the queue.
     while s.qhead < s.trail.assigned() {
         if let Some(c) = turn(s) {
             return Some(c);

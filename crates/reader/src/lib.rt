@@ -9,7 +9,7 @@ ghost use Rattle.script.specs.Sound.{Readable, Readable-prop};
 
 use script::{HEADER_CELLS, Record, Script};
 
-// The records from a cell on.
+// The records from a cell on. The script with a place in it, since what is left of a script has no header and is none.
 #[derive(Clone, Copy)]
 pub struct Records<'a> {
     script: Script<'a>,

@@ -18,7 +18,7 @@ use script::{Header, Record, Script};
 use search::{Query, Solver};
 use state::{Config, State};
 
-// What the script's header says.
+// What the script's header says: counts there, sizes of slices here. No `From`, since neither type is this crate's.
 fn config(header: Header) -> Config
     ensures { config_of result ≡ script.config_of header }
 {
@@ -65,6 +65,7 @@ fn records(script: Script, work: &mut [u32], act: &mut [f64], out: &mut [u32]) -
         activity: Activities::new(act),
     };
     let mut written = 0;
+    // Counted, since the count is what is returned.
     for r in Records::new(script) {
         written += record(&mut x, r, &mut out[written..]);
     }

@@ -1,16 +1,18 @@
 -- Slices filled with noise, and compared.
-use Rattle.std.specs.Prelude.{◌≡◌, ℕ, zero, suc, ◌+◌, ◌-◌, ◌/◌, ◌<◌, ◌≤◌, Bool, true, false, ◌&&◌, leb, List, [], ◌∷◌, ◌++◌, length, get_or, drop, replicate, ◌==◌, ◌≢◌, nat_le, slice_index, slice_index_or, slice_set, to_bits, refl, Float}
-use Rattle.std.proofs.Common.{sym, ap, ◌∙◌, arith, length-append, length-drop, drop_of_length-le, get_or-append-add, get_or-drop, get_or-set_same, get_or-set_other, ext_get_or, lt-ltb, le-ltb, le-leb}
-use Rattle.std.proofs.Math.Bool.{and-false}
+use Rattle.std.specs.Prelude.{◌≡◌, ℕ, zero, suc, ◌+◌, ◌/◌, ◌<◌, ◌≤◌, Bool, true, false, not, ◌&&◌, List, [], ◌∷◌, ◌++◌, length, take, drop, replicate, ◌==◌, ◌≢◌, slice_index_or, nat_eq, to_bits, refl, Float}
+use Rattle.std.specs.Cmp.Lexicographic.{pointwise}
+use Rattle.std.specs.List.{list_all, enumerate_from, starts_with}
+use Rattle.std.specs.Float.{binary64, nan, inf, fin}
+use Rattle.std.specs.Bool.{beq}
+use Rattle.std.specs.Float.Ieee.{eq, is_nan}
+use Rattle.std.proofs.Common.{sym, ap, ◌∙◌, arith, eq-eqb, length-append, length-take, length-take-le, ext_get_or}
+use Rattle.std.proofs.Math.Bool.{and_assoc}
 use Rattle.std.proofs.Math.Decide.{dec_lt}
 use Rattle.std.proofs.Math.Numerals.{add-one}
-use Rattle.std.proofs.lemmas.List.{length-replicate, get_or-replicate}
-use Rattle.std.proofs.Math.ListN.{get_or-append}
-use Rattle.std.proofs.Math.Seq.{drop-cons}
-use Rattle.std.specs.Float.{binary64, nan}
-use Rattle.std.specs.Float.Ieee.{eq}
-use Rattle.std.proofs.lemmas.Bool.{lt-leb}
-use Rattle.replay.specs.Cells.{cells_from, noise, noise_cells, noise_floats, float, cell_behind, cell_clear, like, all_by}
+use Rattle.std.proofs.lemmas.List.{take-append-drop, length-replicate}
+use lib.Pointwise.{pointwise_long}
+use Rattle.std.proofs.lemmas.Cmp.{nat_list_eq_equiv}
+use Rattle.replay.specs.Cells.{cells_from, noise, like, same}
 
 -- ---- noise is seen: it is never 0, and no two cells next to each other hold the same
 
@@ -44,133 +46,105 @@ get_or-cells f d n k h = let e : 0 + k ≡ k = omega arith in get_or-cells_from 
 abbrev pub Filled : {A : Type 0} → (ℕ → A) → A → List A → ℕ → Type 0
 Filled f d s i = (k : ℕ) → k < i → slice_index_or s k d ≡ f k
 
-pub filled_none : {A : Type 0} (f : ℕ → A) (d : A) (s : List A) → Filled f d s 0
-filled_none f d s k h = absurd (omega arith)
-
-pub filled_more : {A : Type 0} (f : ℕ → A) (d : A) (s : List A) (i : ℕ) → i < length s → Filled f d s i → Filled f d (slice_set s i (f i)) (i + 1)
-filled_more f d s i h g k l = go (dec_lt k i)
-  where
-    go : Dec (k < i) → slice_index_or (slice_set s i (f i)) k d ≡ f k
-    go (yes p) = get_or-set_other s i k (f i) d (λ e. omega arith) ∙ g k p
-    go (no p) = let e : k ≡ i = omega arith in rw e (get_or-set_same s i (f i) d h)
-
 pub filled-all : {A : Type 0} (f : ℕ → A) (d : A) (s : List A) (i n : ℕ) → length s ≤ i → length s ≡ n → Filled f d s i → s ≡ cells_from f 0 n
 filled-all f d s i n h e g =
     ext_get_or d s (cells_from f 0 n) (e ∙ sym (length-cells f 0 n)) (λ k l. g k (omega arith) ∙ sym (get_or-cells f d n k (omega arith)))
 
--- ---- a slice that begins with these n cells, and is by its places behind them
+-- ---- tests, one after the other
 
-module _ {A : Type 0} (f : ℕ → A) (first : List A) (n : ℕ) (e : length first ≡ n) (m : ℕ) where
-  over_long : length (first ++ drop n (cells_from f 0 m)) ≡ n + (m - n)
-  over_long = omega (arith, length-append first (drop n (cells_from f 0 m)), length-drop n (cells_from f 0 m), length-cells f 0 m)
+pub and_first : (a b : Bool) → a ≡ false → false ≡ (a && b)
+and_first a b e = rw e
 
-  pub over_in : (k : ℕ) → k < m → k < length (first ++ drop n (cells_from f 0 m))
-  over_in k h = omega (arith, over_long)
+pub and_next : (a b r : Bool) → a ≡ true → r ≡ b → r ≡ (a && b)
+and_next a b r e f = rw (e, f)
 
-  pub over_fits : leb n m ≡ nat_le (length (first ++ drop n (cells_from f 0 m))) m
-  over_fits = go (dec_lt m n)
+-- ---- a slice compared part by part
+
+module _ {A : Type 0} (E : A → A → Bool) where
+  pointwise_append : (xs ys us vs : List A) → length xs ≡ length us → pointwise E (xs ++ ys) (us ++ vs) ≡ (pointwise E xs us && pointwise E ys vs)
+  pointwise_append [] ys [] vs h = refl
+  pointwise_append [] ys (u ∷ us) vs h = absurd (omega (arith, h))
+  pointwise_append (x ∷ xs) ys [] vs h = absurd (omega (arith, h))
+  pointwise_append (x ∷ xs) ys (u ∷ us) vs h =
+      let n : length xs ≡ length us = omega (arith, h) in
+      ap (λ (b : Bool). E x u && b) (pointwise_append xs ys us vs n) ∙ sym (and_assoc (E x u) (pointwise E xs us) (pointwise E ys vs))
+
+  -- a slice against one that begins with these cells: as many as begin it, and what is behind
+  over_parts : (s first rest : List A) → length first ≤ length s
+      → pointwise E s (first ++ rest) ≡ (pointwise E (take (length first) s) first && pointwise E (drop (length first) s) rest)
+  over_parts s first rest h =
+      let n = length first in
+      ap (λ (l : List A). pointwise E l (first ++ rest)) (sym (take-append-drop n s))
+      ∙ pointwise_append (take n s) (drop n s) first rest (length-take-le n s h)
+
+  over_long : (s first rest : List A) → length s < length first → pointwise E s (first ++ rest) ≡ false
+  over_long s first rest h = go (pointwise E s (first ++ rest)) refl
     where
-      go : Dec (m < n) → nat_le n m ≡ nat_le (length (first ++ drop n (cells_from f 0 m))) m
-      go (yes h) = lt-leb n m h ∙ sym (lt-leb (length (first ++ drop n (cells_from f 0 m))) m (omega (arith, over_long)))
-      go (no h) = le-leb n m (omega arith) ∙ sym (le-leb (length (first ++ drop n (cells_from f 0 m))) m (omega (arith, over_long)))
+      go : (b : Bool) → pointwise E s (first ++ rest) ≡ b → b ≡ false
+      go true e = absurd (omega (arith, h, pointwise_long E s (first ++ rest) e, length-append first rest))
+      go false e = refl
 
-  over_front : (d : A) (k : ℕ) → k < n → slice_index_or (first ++ drop n (cells_from f 0 m)) k d ≡ slice_index_or first k d
-  over_front d k h = get_or-append first (drop n (cells_from f 0 m)) d k (omega arith)
+  pointwise_replicate : (xs : List A) (z : A) → pointwise E xs (replicate (length xs) z) ≡ list_all (λ x. E x z) xs
+  pointwise_replicate [] z = refl
+  pointwise_replicate (x ∷ xs) z = ap (λ (b : Bool). E x z && b) (pointwise_replicate xs z)
 
-  over_back : (d : A) (k : ℕ) → n ≤ k → k < m → slice_index_or (first ++ drop n (cells_from f 0 m)) k d ≡ f k
-  over_back d k h l =
-      let p : k ≡ length first + (k - n) = omega arith in
-      let q : n + (k - n) ≡ k = omega arith in
-      ap (λ (i : ℕ). get_or (first ++ drop n (cells_from f 0 m)) i d) p
-      ∙ get_or-append-add first (drop n (cells_from f 0 m)) (k - n) d
-      ∙ get_or-drop n (cells_from f 0 m) (k - n) d
-      ∙ ap (λ (i : ℕ). get_or (cells_from f 0 m) i d) q
-      ∙ get_or-cells f d m k l
+  -- so many of the same, and what is behind
+  pub clear_parts : (s : List A) (n : ℕ) (z : A) (rest : List A) → n ≤ length s
+      → pointwise E s (replicate n z ++ rest) ≡ (list_all (λ x. E x z) (take n s) && pointwise E (drop n s) rest)
+  clear_parts s n z rest h =
+      let e : length (take n s) ≡ n = length-take-le n s h in
+      ap (λ (l : List A). pointwise E l (replicate n z ++ rest)) (sym (take-append-drop n s))
+      ∙ pointwise_append (take n s) (drop n s) (replicate n z) rest (e ∙ sym (length-replicate n z))
+      ∙ ap (λ (b : Bool). b && pointwise E (drop n s) rest) (ap (λ (k : ℕ). pointwise E (take n s) (replicate k z)) (sym e) ∙ pointwise_replicate (take n s) z)
 
-pub behind_at : (first : List ℕ) (m k : ℕ) → k < m → slice_index (first ++ drop (length first) (noise_cells m)) k ≡ cell_behind first k
-unfolding cell_behind
-behind_at first m k h = go (dec_lt k (length first))
+  pub clear_long : (s : List A) (n : ℕ) (z : A) (rest : List A) → length s < n → pointwise E s (replicate n z ++ rest) ≡ false
+  clear_long s n z rest h = over_long s (replicate n z) rest (omega (arith, h, length-replicate n z))
+
+  -- each cell against the one of its place
+  placed_all : (f : ℕ → A) (i : ℕ) (s : List A) → list_all (λ p. E p.1 (f p.0)) (enumerate_from i s) ≡ pointwise E s (cells_from f i (length s))
+  unfolding cells_from
+  placed_all f i [] = refl
+  placed_all f i (x ∷ xs) = ap (λ (b : Bool). E x (f i) && b) (ap (λ (j : ℕ). list_all (λ p. E p.1 (f p.0)) (enumerate_from j xs)) (add-one i) ∙ placed_all f (suc i) xs)
+
+  pub placed : (f : ℕ → A) (n i : ℕ) (s : List A)
+      → list_all (λ p. E p.1 (f p.0)) (drop n (enumerate_from i s)) ≡ pointwise E (drop n s) (drop n (cells_from f i (length s)))
+  unfolding cells_from
+  placed f zero i s = placed_all f i s
+  placed f (suc n) i [] = refl
+  placed f (suc n) i (x ∷ xs) =
+      ap (λ (j : ℕ). list_all (λ p. E p.1 (f p.0)) (drop n (enumerate_from j xs))) (add-one i) ∙ placed f n (suc i) xs
+
+-- a slice of numbers against one that begins with these
+pub begins : (s first rest : List ℕ) → same s (first ++ rest) ≡ (starts_with nat_eq s first && same (drop (length first) s) rest)
+begins s first rest = go (dec_lt (length s) (length first))
   where
-    go : Dec (k < length first) → slice_index (first ++ drop (length first) (noise_cells m)) k ≡ cell_behind first k
-    go (yes l) = over_front noise first (length first) refl m 0 k l ∙ rw (lt-ltb k (length first) l, cell_behind)
-    go (no l) = over_back noise first (length first) refl m 0 k (omega arith) h ∙ rw (le-ltb k (length first) (omega arith), cell_behind)
+    n : ℕ
+    n = length first
 
--- by any way x to write a cell
-cleared_at : {A : Type 0} (x : ℕ → A) (d : A) (n m k : ℕ) → k < m
-    → slice_index_or (replicate n (x 0) ++ drop n (cells_from (λ i. x (noise i)) 0 m)) k d ≡ x (cell_clear n k)
-unfolding cell_clear
-cleared_at x d n m k h = go (dec_lt k n)
-  where
-    go : Dec (k < n) → slice_index_or (replicate n (x 0) ++ drop n (cells_from (λ i. x (noise i)) 0 m)) k d ≡ x (cell_clear n k)
-    go (yes l) =
-        over_front (λ i. x (noise i)) (replicate n (x 0)) n (length-replicate n (x 0)) m d k l ∙ get_or-replicate n k (x 0) d l ∙ rw (lt-ltb k n l, cell_clear)
-    go (no l) = over_back (λ i. x (noise i)) (replicate n (x 0)) n (length-replicate n (x 0)) m d k (omega arith) h ∙ rw (le-ltb k n (omega arith), cell_clear)
+    turn : pointwise nat_eq (take n s) first ≡ starts_with nat_eq s first
+    turn = nat_list_eq_equiv.symm (take n s) first
 
-pub clear_at : (n m k : ℕ) → k < m → slice_index (replicate n 0 ++ drop n (noise_cells m)) k ≡ cell_clear n k
-clear_at n m k h = cleared_at (λ y. y) 0 n m k h
+    short : length s < n → (b : Bool) → pointwise nat_eq (take n s) first ≡ b → b ≡ false
+    short h true e = absurd (omega (arith, h, pointwise_long nat_eq (take n s) first e, length-take n s))
+    short h false e = refl
 
-pub clear_float_at : (n m k : ℕ) → k < m → slice_index_or (replicate n (float 0) ++ drop n (noise_floats m)) k nan ≡ float (cell_clear n k)
-clear_float_at n m k h = cleared_at float nan n m k h
-
-pub behind_first : (first : List ℕ) (i : ℕ) → i < length first → slice_index first i ≡ cell_behind first i
-unfolding cell_behind
-behind_first first i h = rw (lt-ltb i (length first) h, cell_behind)
-
-pub behind_noise : (first : List ℕ) (i : ℕ) → length first ≤ i → noise i ≡ cell_behind first i
-unfolding cell_behind
-behind_noise first i h = rw (le-ltb i (length first) h, cell_behind)
-
-pub clear_zero : (n i : ℕ) → i < n → 0 ≡ cell_clear n i
-unfolding cell_clear
-clear_zero n i h = rw (lt-ltb i n h, cell_clear)
-
-pub clear_noise : (n i : ℕ) → n ≤ i → noise i ≡ cell_clear n i
-unfolding cell_clear
-clear_noise n i h = rw (le-ltb i n h, cell_clear)
+    go : Dec (length s < n) → same s (first ++ rest) ≡ (starts_with nat_eq s first && same (drop n s) rest)
+    go (yes h) = over_long nat_eq s first rest h ∙ and_first (starts_with nat_eq s first) (same (drop n s) rest) (sym turn ∙ short h (pointwise nat_eq (take n s) first) refl)
+    go (no h) = over_parts nat_eq s first rest (omega arith) ∙ ap (λ (b : Bool). b && same (drop n s) rest) turn
 
 -- ---- floats
 
-module _ (x y : Float) where
-  pub like-numbers : eq x x ≡ true → eq y y ≡ true → (to_bits binary64 x == to_bits binary64 y) ≡ like x y
-  unfolding like
-  like-numbers p q = rw (like, p, q)
+beq_self : (s : Bool) → beq s s ≡ true
+beq_self true = refl
+beq_self false = refl
 
-  pub like_other : eq y y ≡ false → false ≡ like x y
-  unfolding like
-  like_other q = rw (like, q, and-false)
+-- a NaN alone differs from itself
+pub eq-itself : (x : Float) → eq x x ≡ not (is_nan x)
+unfolding eq is_nan
+eq-itself nan = refl
+eq-itself (inf s) = beq_self s
+eq-itself (fin s m d) = rw (eq-eqb _ _ refl, beq_self s)
 
-  pub like_nan : eq x x ≡ false → false ≡ like x y
-  unfolding like
-  like_nan p = rw (like, p)
-
--- ---- comparing from a place on
-
-all_none : {A : Type 0} (test : A → A → Bool) (r : List A) → all_by test [] r ≡ nat_le (length r) 0
-unfolding all_by
-all_none test [] = refl
-all_none test (x ∷ xs) = sym (lt-leb (suc (length xs)) 0 (omega arith))
-
-module _ {A : Type 0} (test : A → A → Bool) (d : A) (s t : List A) where
-  module _ (i : ℕ) (x : A) (h : i < length s) (l : i < length t) (e : get_or t i d ≡ x) where
-    all_step : all_by test (drop i s) (drop i t) ≡ (test (slice_index_or s i d) x && all_by test (drop (i + 1) s) (drop (i + 1) t))
-    unfolding all_by
-    all_step = rw (drop-cons s i d h, drop-cons t i d l, add-one, e)
-
-    pub all_turn : test (slice_index_or s i d) x ≡ true → all_by test (drop (i + 1) s) (drop (i + 1) t) ≡ all_by test (drop i s) (drop i t)
-    all_turn q = sym (all_step ∙ ap (λ (b : Bool). b && all_by test (drop (i + 1) s) (drop (i + 1) t)) q)
-
-    pub all_other : test (slice_index_or s i d) x ≡ false → false ≡ all_by test (drop i s) (drop i t)
-    all_other q = sym (all_step ∙ ap (λ (b : Bool). b && all_by test (drop (i + 1) s) (drop (i + 1) t)) q)
-
-  pub all_end : (i : ℕ) → i ≡ length s → nat_le (length t) (length s) ≡ all_by test (drop i s) (drop i t)
-  all_end i e = go (dec_lt (length s) (length t))
-    where
-      none : drop i s ≡ []
-      none = drop_of_length-le s {i = i} (omega arith)
-
-      go : Dec (length s < length t) → nat_le (length t) (length s) ≡ all_by test (drop i s) (drop i t)
-      go (yes h) =
-          lt-leb (length t) (length s) h ∙ sym (rw none (all_none test (drop i t) ∙ lt-leb (length (drop i t)) 0 (omega (arith, length-drop i t))))
-      go (no h) =
-          le-leb (length t) (length s) (omega arith)
-          ∙ sym (rw none (all_none test (drop i t) ∙ le-leb (length (drop i t)) 0 (omega (arith, length-drop i t))))
+pub like_is : (x y : Float) → like x y ≡ (not (is_nan x) && (not (is_nan y) && to_bits binary64 x == to_bits binary64 y))
+unfolding like
+like_is x y = rw (like, eq-itself x, eq-itself y)

@@ -1,14 +1,15 @@
 -- The comparing is exact: what passes is equal, and what is equal passes.
-use Rattle.std.specs.Prelude.{◌≡◌, ℕ, zero, suc, ◌+◌, ◌*◌, ◌^◌, Bool, true, false, cond, ◌&&◌, T, List, [], ◌∷◌, ◌++◌, drop, replicate, pos, ◌==◌, nat_eq, nat_lt, to_bits, Float}
+use Rattle.std.specs.Prelude.{◌≡◌, ℕ, zero, suc, ◌+◌, ◌*◌, ◌^◌, Bool, true, false, not, cond, ◌&&◌, T, List, [], ◌∷◌, ◌++◌, drop, replicate, pos, ◌==◌, nat_eq, nat_lt, to_bits, Float}
 use Rattle.std.proofs.Math.Path.{refl}
 use Rattle.std.proofs.Common.{sym, ap, ◌∙◌, subst, eq-eqb, eqb-true}
-use Rattle.std.specs.Bool.{beq}
-use Rattle.std.specs.Float.{Format, nan, inf, fin, binary64}
+use Rattle.std.specs.Cmp.Lexicographic.{pointwise}
+use Rattle.std.specs.Float.{Format, inf, binary64}
 use Rattle.std.specs.Float.Ieee.{eq, is_nan, fits, of_bits, of_int, round, units, odd, low, emax, prec}
 use Rattle.std.specs.Float.Ieee.Bits.{of_bits-to_bits}
 use Rattle.std.specs.Float.Ieee.Fits.{of_int-fits}
 use Rattle.script.specs.Sound.{and_left, and_right}
-use Rattle.replay.specs.Cells.{cells_from, noise_floats, float, like, all_by, same, same_floats}
+use Rattle.replay.specs.CellLaws.{eq-itself}
+use Rattle.replay.specs.Cells.{cells_from, noises, noise_floats, float, like, same, same_floats}
 
 -- ---- lists
 
@@ -34,33 +35,46 @@ unfolding cells_from
 each_cell P f h i zero = tt
 each_cell P f h i (suc n) = (h i, each_cell P f h (suc i) n)
 
-module _ {A : Type 0} (test : A → A → Bool) (P : A → Type 0) where
-  all_exact : ((x y : A) → P x → P y → test x y ≡ true → x ≡ y) → (xs ys : List A) → Each P xs → Each P ys → all_by test xs ys ≡ true → xs ≡ ys
-  unfolding all_by
-  all_exact f [] [] h g e = refl
-  all_exact f [] (y ∷ ys) h g e = absurd (subst T (sym e) tt)
-  all_exact f (x ∷ xs) [] h g e = absurd (subst T (sym e) tt)
-  all_exact f (x ∷ xs) (y ∷ ys) h g e =
-      let p : x ≡ y = f x y h.0 g.0 (and_left (test x y) (all_by test xs ys) e) in
-      let q : xs ≡ ys = all_exact f xs ys h.1 g.1 (and_right (test x y) (all_by test xs ys) e) in
+-- What numbers are written to: of known cells, such as all that numbers were written to, those that are like one another are the same.
+pub record Exactly {A : Type 0} (of : ℕ → A) (like : A → A → Bool) (Known : A → Type 0) : Type 0 where
+  pub known : (n : ℕ) → Known (of n)
+  pub exact : (x y : A) → Known x → Known y → like x y ≡ true → x ≡ y
+  pub itself : (x : A) → Known x → like x x ≡ true
+
+module _ {A : Type 0} {of : ℕ → A} {like : A → A → Bool} {Known : A → Type 0} (c : Exactly of like Known) where
+  pub all_exact : (xs ys : List A) → Each Known xs → Each Known ys → pointwise like xs ys ≡ true → xs ≡ ys
+  all_exact [] [] h g e = refl
+  all_exact [] (y ∷ ys) h g e = absurd (subst T (sym e) tt)
+  all_exact (x ∷ xs) [] h g e = absurd (subst T (sym e) tt)
+  all_exact (x ∷ xs) (y ∷ ys) h g e =
+      let p : x ≡ y = c.exact x y h.0 g.0 (and_left (like x y) (pointwise like xs ys) e) in
+      let q : xs ≡ ys = all_exact xs ys h.1 g.1 (and_right (like x y) (pointwise like xs ys) e) in
       rw (p, q)
 
-  all_self : ((x : A) → P x → test x x ≡ true) → (xs : List A) → Each P xs → all_by test xs xs ≡ true
-  unfolding all_by
-  all_self f [] h = refl
-  all_self f (x ∷ xs) h = rw (f x h.0) (all_self f xs h.1)
+  pub all_self : (xs : List A) → Each Known xs → pointwise like xs xs ≡ true
+  all_self [] h = refl
+  all_self (x ∷ xs) h = rw (c.itself x h.0) (all_self xs h.1)
+
+  pub all_known : (n : ℕ) → Each Known (noises of n)
+  all_known n = each_cell Known _ (λ i. c.known _) 0 n
 
 -- ---- numbers
 
-each_any : (xs : List ℕ) → Each (λ _. Unit {0}) xs
+abbrev pub Any : ℕ → Type 0
+Any x = Unit {0}
+
+pub numbers_alike : Exactly (λ n. n) nat_eq Any
+numbers_alike = record { known = λ n. tt; exact = λ x y h g e. eqb-true x y e; itself = λ x h. eq-eqb x x refl }
+
+each_any : (xs : List ℕ) → Each Any xs
 each_any [] = tt
 each_any (x ∷ xs) = (tt, each_any xs)
 
 pub same_exact : (xs ys : List ℕ) → same xs ys ≡ true → xs ≡ ys
-same_exact xs ys e = all_exact nat_eq (λ _. Unit {0}) (λ x y h g p. eqb-true x y p) xs ys (each_any xs) (each_any ys) e
+same_exact xs ys e = all_exact numbers_alike xs ys (each_any xs) (each_any ys) e
 
 pub same_self : (xs : List ℕ) → same xs xs ≡ true
-same_self xs = all_self nat_eq (λ _. Unit {0}) (λ x h. eq-eqb x x refl) xs (each_any xs)
+same_self xs = all_self numbers_alike xs (each_any xs)
 
 -- ---- floats that are no NaN
 
@@ -79,23 +93,7 @@ like_self : (x : Float) → Known x → like x x ≡ true
 unfolding like
 like_self x h = rw (like, h.itself) (eq-eqb (to_bits binary64 x) (to_bits binary64 x) refl)
 
-pub floats_exact : (xs ys : List Float) → Each Known xs → Each Known ys → same_floats xs ys ≡ true → xs ≡ ys
-floats_exact xs ys h g e = all_exact like Known like_exact xs ys h g e
-
-pub floats_self : (xs : List Float) → Each Known xs → same_floats xs xs ≡ true
-floats_self xs h = all_self like Known like_self xs h
-
 -- ---- a whole number as a float
-
-beq_self : (s : Bool) → beq s s ≡ true
-beq_self true = refl
-beq_self false = refl
-
-eq_some : (x : Float) → is_nan x ≡ false → eq x x ≡ true
-unfolding eq is_nan
-eq_some nan e = sym e
-eq_some (inf s) e = beq_self s
-eq_some (fin s m d) e = rw (eq-eqb _ _ refl, beq_self s)
 
 odd_some : (d : ℕ) (s : Bool) (q k l : ℕ) → is_nan (odd d s q k l) ≡ false
 unfolding odd is_nan
@@ -120,10 +118,19 @@ round_some f s num den = units_some f s _ _
 
 pub known-float : (n : ℕ) → Known (float n)
 unfolding of_int
-known-float n = record { fitting = of_int-fits binary64 (pos n); itself = eq_some (float n) (round_some binary64 false n 1) }
+known-float n = record { fitting = of_int-fits binary64 (pos n); itself = eq-itself (float n) ∙ ap not (round_some binary64 false n 1) }
+
+pub floats_alike : Exactly float like Known
+floats_alike = record { known = known-float; exact = like_exact; itself = like_self }
+
+pub floats_exact : (xs ys : List Float) → Each Known xs → Each Known ys → same_floats xs ys ≡ true → xs ≡ ys
+floats_exact xs ys h g e = all_exact floats_alike xs ys h g e
+
+pub floats_self : (xs : List Float) → Each Known xs → same_floats xs xs ≡ true
+floats_self xs h = all_self floats_alike xs h
 
 pub known-noise : (n : ℕ) → Each Known (noise_floats n)
-known-noise n = each_cell Known _ (λ i. known-float _) 0 n
+known-noise n = all_known floats_alike n
 
 pub zero-float : of_bits binary64 0 ≡ float 0
 unfolding of_int round of_bits

@@ -3,14 +3,28 @@ use Rattle.std.specs.Prelude.{◌≡◌, ℕ, suc, ◌+◌, ◌%◌, ◌^◌, �
 use Rattle.std.proofs.Math.Path.{sym, ap}
 use Rattle.std.proofs.Common.{◌∙◌, arith, add-one, take-suc-set, lt-ltb, le-ltb}
 use Rattle.text.specs.Bytes.{blank, newline}
-use Rattle.text.specs.Split.{push, pieces, before, starts, lines}
+use Rattle.text.specs.Split.{push, pieces, before, starts, lines, words}
 use Rattle.text.specs.SplitLaws.{Cut, words_of, words_cut}
 use Rattle.text.specs.FormatLaws.{words_end}
 use Rattle.text.specs.Number.{decimal}
 use denote.Ref.{Bor}
 use Rattle.replay.specs.declared.Tally.{Tally}
 use Rattle.replay.specs.Vector.{vector_holds}
-use Rattle.replay.specs.Lines.{read_on, line_numbers, line_holds, one, added, group_key, scripts, next_group, others, all_scripts, count, tallied, Grouped}
+use Rattle.replay.specs.Lines.{read_on, line_numbers, Lengths, line_holds, one, added, group_key, scripts, next_group, others, all_scripts, count, tallied, Grouped}
+
+push_some : (b : ℕ) (ps : List (List ℕ)) → 0 < length (push b ps)
+unfolding push
+push_some b [] = omega arith
+push_some b (p ∷ ps) = omega arith
+
+some_word : (l : List ℕ) → 0 < length (words l)
+unfolding pieces
+some_word [] = omega arith
+some_word (b ∷ bs) = go (b == blank)
+  where
+    go : (t : Bool) → 0 < length {A = List ℕ} (elim t as (λ _. List (List ℕ)) [ true ↦ [] ∷ words bs | false ↦ push b (words bs) ])
+    go true = omega arith
+    go false = push_some b (words bs)
 
 -- the words behind the name
 pub numbers_start : (line first : List ℕ) (room : ℕ) (o : Option (Bor (List ℕ))) → first ≡ before blank line → Cut blank line first o
@@ -40,9 +54,6 @@ module _ (o : Option (Bor (List ℕ))) {left : Option (Bor (List ℕ))} {line : 
   numbers_bad b = sym (turn ∙ read_bad room xs w (words_of o) b)
 
   module _ (x : ℕ) (b : decimal w ≡ Some x) where
-    pub numbers_full : room ≤ length xs → [] ≡ read_on room xs (words_of left)
-    numbers_full l = sym (turn ∙ read_full room xs w (words_of o) x b l)
-
     pub numbers_more : length xs < room → (k : ℕ) (cells : List ℕ) → k < length cells → xs ≡ take k cells
         → read_on room (take (k + 1) (slice_set cells k x)) (words_of o) ≡ read_on room xs (words_of left)
     numbers_more l k cells q p =
@@ -54,7 +65,23 @@ pub numbers_end : {left : Option (Bor (List ℕ))} (room : ℕ) (xs : List ℕ) 
 unfolding read_on
 numbers_end room xs e = sym (ap (read_on room xs) (words_end e))
 
+-- words that are left where there is no room
+pub numbers_over : {left : Option (Bor (List ℕ))} {line : Bor (List ℕ)} (room : ℕ) (xs : List ℕ) → left ≡ Some line → room ≤ length xs → [] ≡ read_on room xs (words_of left)
+numbers_over {line = line} room xs e h = sym (ap (λ (o : Option (Bor (List ℕ))). read_on room xs (words_of o)) e ∙ none (words line.now) (some_word line.now))
+  where
+    over : (w : List ℕ) (ws : List (List ℕ)) (o : Option ℕ) → decimal w ≡ o → read_on room xs (w ∷ ws) ≡ []
+    over w ws None d = read_bad room xs w ws d
+    over w ws (Some x) d = read_full room xs w ws x d h
+
+    none : (ws : List (List ℕ)) → 0 < length ws → read_on room xs ws ≡ []
+    none [] l = absurd (omega arith)
+    none (w ∷ ws) l = over w ws (decimal w) refl
+
 -- ---- one script
+
+pub lengths_are : (room : Lengths) (c w a o : ℕ) → c ≡ room.cells → w ≡ room.work → a ≡ room.activities → o ≡ room.out
+    → record { cells = c; work = w; activities = a; out = o } ≡ room
+lengths_are room c w a o ec ew ea eo = rw (ec, ew, ea, eo)
 
 pub one_held : (b v : Bool) → b ≡ v → b ≡ true → record { passed = 1; failed = 0 } ≡ one v
 unfolding one
@@ -64,14 +91,10 @@ pub one_failed : (b v : Bool) → b ≡ v → b ≡ false → record { passed = 
 unfolding one
 one_failed b v e t = rw (← e, t)
 
-pub holds_line : (room work activities out : ℕ) (line xs : List ℕ) (b : Bool) → b ≡ vector_holds xs work activities out → xs ≡ line_numbers room line
-    → b ≡ line_holds room work activities out line
+pub holds_line : (room : Lengths) (line xs : List ℕ) (b : Bool) → b ≡ vector_holds xs room.work room.activities room.out → xs ≡ line_numbers room.cells line
+    → b ≡ line_holds room line
 unfolding line_holds
-holds_line room work activities out line xs b e f = e ∙ ap (λ (ys : List ℕ). vector_holds ys work activities out) f
-
-pub line_as : {r r' w w' a a' o o' : ℕ} (line : List ℕ) (u : Tally) → u ≡ one (line_holds r w a o line) → r ≡ r' → w ≡ w' → a ≡ a' → o ≡ o'
-    → u ≡ one (line_holds r' w' a' o' line)
-line_as line u e er ew ea eo = rw (er, ew, ea, eo) at e
+holds_line room line xs b e f = e ∙ ap (λ (ys : List ℕ). vector_holds ys room.work room.activities room.out) f
 
 pub sum_is : (a b : Tally) (p f : ℕ) → p ≡ (a.passed + b.passed) % 2 ^ 64 → f ≡ (a.failed + b.failed) % 2 ^ 64 → record { passed = p; failed = f } ≡ added a b
 sum_is a b p f e g = rw (e, g)
@@ -156,9 +179,6 @@ made : (t : Tally) (p f : ℕ) → t.passed ≡ p → t.failed ≡ f → t ≡ r
 made t p f e g = rw (← e, ← g)
 
 module _ (test : List ℕ → Bool) (input : List ℕ) where
-  pub counting_start : Counting test input input record { passed = 0; failed = 0 }
-  counting_start = record { passed = omega arith; failed = omega arith; rest = refl; shorter = omega arith }
-
   module _ (left : List ℕ) (t : Tally) (k : Counting test input left t) where
     grouped : scripts (lines left) ≡ [] → lines left ≡ next_group (lines left) → Grouped test input left t
     unfolding count
@@ -234,14 +254,7 @@ pub record Totalling (test : List ℕ → Bool) (input left : List ℕ) (t : Tal
   pub passed : t.passed + count test (all_scripts (lines left)) ≡ count test (all_scripts (lines input))
   pub failed : t.failed + count (λ l. not (test l)) (all_scripts (lines left)) ≡ count (λ l. not (test l)) (all_scripts (lines input))
 
-pub group_as : {r r' w w' a a' o o' : ℕ} {input left : List ℕ} {t : Tally} → Grouped (line_holds r w a o) input left t → r ≡ r' → w ≡ w' → a ≡ a' → o ≡ o'
-    → Grouped (line_holds r' w' a' o') input left t
-group_as g er ew ea eo = rw (er, ew, ea, eo) at g
-
 module _ (test : List ℕ → Bool) (input : List ℕ) where
-  pub totalling_start : Totalling test input input record { passed = 0; failed = 0 }
-  totalling_start = record { passed = omega arith; failed = omega arith }
-
   module _ (left : List ℕ) (t : Tally) (k : Totalling test input left t) where
     pub totalling_end : lines left ≡ [] → t ≡ tallied test (all_scripts (lines input))
     unfolding all_scripts count

@@ -18,9 +18,16 @@ read_on room xs (w ∷ ws) =
 unfoldable pub line_numbers : ℕ → List ℕ → List ℕ
 line_numbers room line = read_on room [] (drop 1 (words line))
 
--- a line that is a vector that holds, with room for so many numbers, over slices of these lengths
-unfoldable pub line_holds : (room work activities out : ℕ) → List ℕ → Bool
-line_holds room work activities out line = vector_holds (line_numbers room line) work activities out
+-- how many numbers of a line there is room for, and how long the slices are that scripts run over
+pub record Lengths : Type 0 where
+  pub cells : ℕ
+  pub work : ℕ
+  pub activities : ℕ
+  pub out : ℕ
+
+-- a line that is a vector that holds
+unfoldable pub line_holds : Lengths → List ℕ → Bool
+line_holds room line = vector_holds (line_numbers room.cells line) room.work room.activities room.out
 
 -- one script
 unfoldable pub one : Bool → Tally

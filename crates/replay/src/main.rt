@@ -4,14 +4,20 @@
 // lengths of work, activities and out; the number and the place of the refusal, or 0 and 0; how many cells the script has; these cells; the out cells.
 #![tactic(auto)]
 
-ghost use Rattle.std.specs.Prelude.{◌≡◌, ◌+◌, ◌^◌, ◌<◌, ◌≤◌, ◌++◌, length, take, drop, replicate};
+ghost use Rattle.std.specs.Prelude.{◌≡◌, ℕ, ◌+◌, ◌^◌, ◌<◌, ◌≤◌, ◌++◌, ◌==◌, ◌&&◌, Bool, length, take, drop, replicate};
+ghost use Rattle.std.specs.Cmp.Lexicographic.{pointwise};
+ghost use Rattle.std.specs.List.{list_all};
 ghost use Rattle.model.specs.Script.{header};
+ghost use Rattle.refusal.specs.Number.{number as the_number};
 ghost use Rattle.text.specs.Split.{lines};
 ghost use Rattle.replay.specs.Lines.{line_numbers, line_holds, one, added, all_scripts, tallied, Grouped};
 ghost use Rattle.replay.specs.Vector.{cleared, is_run, untouched, passes, vector_holds};
-ghost use Rattle.replay.specs.Cells.{noise, noise_cells, noise_floats, cell_behind, cell_clear, float, like, same, same_floats};
+ghost use Rattle.replay.specs.Cells.{noise, noises, noise_cells, noise_floats, float, like, same};
+ghost use Rattle.replay.specs.Exact.{Exactly, Any, numbers_alike, Known, floats_alike};
 
+use refusal::Refusal;
 use std::io::Read;
+use std::marker::Model;
 
 // ---- noise: never 0, and never the same in two cells next to each other
 
@@ -21,87 +27,104 @@ fn noise(i: usize) -> u32
     (i % 65521) as u32 * 65537 + 7
 }
 
-fn fill(s: &mut [u32])
-    ensures { s.new ≡ noise_cells (length s.old) }
-{
-    for i in 0..s.len() {
-        s[i] = noise(i);
+// What a slice is made of: a number can be written to a cell, and two cells be compared.
+trait Cell: Copy {
+    ghost of: { ℕ → Self };
+
+    ghost like: { Self → Self → Bool };
+
+    ghost Known: { Self → Type 0 };
+
+    // A number as a cell.
+    fn of(x: u32) -> Self
+        ensures { result ≡ of x };
+
+    fn is_like(self, other: Self) -> bool
+        ensures { result ≡ like self other };
+
+    // Known cells, such as those that numbers were written to, are like one another only where they are the same.
+    ghost alike: { Exactly of like Known };
+}
+
+impl Cell for u32 {
+    ghost of = { λ n. n };
+
+    ghost like = { λ x y. x == y };
+
+    ghost Known = { Any };
+
+    ghost alike = { numbers_alike };
+
+    fn of(x: u32) -> u32 {
+        x
+    }
+
+    fn is_like(self, other: u32) -> bool {
+        self == other
     }
 }
 
-fn fill_floats(s: &mut [f64])
-    ensures { s.new ≡ noise_floats (length s.old) }
+impl Cell for f64 {
+    ghost of = { float };
+
+    ghost like = { like };
+
+    ghost Known = { Known };
+
+    ghost alike = { floats_alike };
+
+    fn of(x: u32) -> f64 {
+        f64::from(x)
+    }
+
+    // Bit by bit, since `==` holds of 0.0 and -0.0; a NaN is like nothing.
+    #[tactic(auto, using(crate::specs::CellLaws::like_is))]
+    fn is_like(self, other: f64) -> bool {
+        !self.is_nan() && !other.is_nan() && self.to_bits() == other.to_bits()
+    }
+}
+
+fn fill<T: Cell>(s: &mut [T])
+    ensures { s.new ≡ noises T.of (length s.old) }
 {
-    for i in 0..s.len() {
-        s[i] = noise(i) as f64;
+    for (i, cell) in s.iter_mut().enumerate() {
+        *cell = T::of(noise(i));
     }
 }
 
 // ---- comparing
 
-// Cell i of a slice that begins with these cells, and is noise behind them.
-fn cell_behind(first: &[u32], i: usize) -> u32
-    ensures { result ≡ cell_behind first.now i }
+// Whether all cells behind the first n are noise. The slice stays whole, since noise is by place.
+fn is_noise<T: Cell>(s: &[T], n: usize) -> bool
+    ensures { result ≡ pointwise T.like (drop n s.now) (drop n (noises T.of (length s.now))) }
 {
-    if i < first.len() {
-        return first[i];
-    }
-    noise(i)
+    s.iter()
+        .enumerate()
+        .skip(n)
+        .all(|(i, x)| x.is_like(T::of(noise(i))))
 }
 
+fn is_zero<T: Cell>(s: &[T]) -> bool
+    ensures { result ≡ list_all (λ x. T.like x (T.of 0)) s.now }
+{
+    s.iter().all(|x| x.is_like(T::of(0)))
+}
+
+// Whether the first n cells are 0, and those behind them noise. There may be fewer than n.
+fn is_clear<T: Cell>(s: &[T], n: usize) -> bool
+    ensures { result ≡ pointwise T.like s.now (replicate n (T.of 0) ++ drop n (noises T.of (length s.now))) }
+{
+    if s.len() < n {
+        return false;
+    }
+    is_zero(&s[..n]) && is_noise(s, n)
+}
+
+// Whether a slice begins with these cells, and is noise behind them.
 fn is_out(s: &[u32], first: &[u32]) -> bool
     ensures { result ≡ same s.now (first.now ++ drop (length first.now) (noise_cells (length s.now))) }
 {
-    for i in 0..s.len() {
-        if s[i] != cell_behind(first, i) {
-            return false;
-        }
-    }
-    first.len() <= s.len()
-}
-
-// Cell i of a slice whose first n cells are 0.
-fn cell_clear(n: usize, i: usize) -> u32
-    ensures { result ≡ cell_clear n i }
-{
-    if i < n {
-        return 0;
-    }
-    noise(i)
-}
-
-fn is_clear(s: &[u32], n: usize) -> bool
-    ensures { result ≡ same s.now (replicate n 0 ++ drop n (noise_cells (length s.now))) }
-{
-    for i in 0..s.len() {
-        if s[i] != cell_clear(n, i) {
-            return false;
-        }
-    }
-    n <= s.len()
-}
-
-// Bit by bit; a NaN is like nothing.
-fn is_like(x: f64, y: f64) -> bool
-    ensures { result ≡ like x y }
-{
-    if x == x {
-        if y == y {
-            return f64::to_bits(x) == f64::to_bits(y);
-        }
-    }
-    false
-}
-
-fn is_clear_floats(s: &[f64], n: usize) -> bool
-    ensures { result ≡ same_floats s.now (replicate n (float 0) ++ drop n (noise_floats (length s.now))) }
-{
-    for i in 0..s.len() {
-        if !is_like(s[i], cell_clear(n, i) as f64) {
-            return false;
-        }
-    }
-    n <= s.len()
+    s.starts_with(first) && is_noise(s, first.len())
 }
 
 // ---- a script
@@ -120,149 +143,140 @@ fn cleared(script: &[u32]) -> usize
 fn variables(script: &[u32]) -> usize
     ensures { result ≡ (header script.now).variables }
 {
-    if script.len() == 0 {
-        return 0;
-    }
-    script[0] as usize
+    script.first().copied().unwrap_or(0) as usize
 }
 
-// Whether a run that wrote n out cells left these slices.
-fn is_run(
-    script: &[u32],
-    want: &[u32],
-    n: u64,
-    work: &[u32],
-    activities: &[f64],
-    out: &[u32],
-) -> bool
-    ensures { result ≡ is_run script.now want.now n work.now activities.now out.now }
+// Whether a refusal has this number and this place.
+fn is_refusal(refused: Refusal, number: u32, place: u32) -> bool
+    ensures { result ≡ (number == the_number refused.rule && place == refused.place) }
 {
-    if n != want.len() as u64 {
-        return false;
-    }
-    if !is_clear(work, cleared(script)) {
-        return false;
-    }
-    if !is_clear_floats(activities, variables(script)) {
-        return false;
-    }
-    is_out(out, want)
+    number == refused.rule.number() && u64::from(place) == refused.place
 }
 
-// Whether the slices are as they were.
-fn is_untouched(work: &[u32], activities: &[f64], out: &[u32]) -> bool
-    ensures { result ≡ untouched work.now activities.now out.now }
-{
-    if !is_clear(work, 0) {
-        return false;
-    }
-    if !is_clear_floats(activities, 0) {
-        return false;
-    }
-    is_clear(out, 0)
+// The slices that a script runs over.
+#[derive(Drop)]
+struct Slices<'a> {
+    work: &'a mut [u32],
+    activities: &'a mut [f64],
+    out: &'a mut [u32],
 }
 
-// Whether a script gives the refusal, or the out cells, that are wanted.
-fn gives(
-    script: &[u32],
-    refusal: u32,
-    refused_at: u32,
-    want: &[u32],
-    work: &mut [u32],
-    activities: &mut [f64],
-    out: &mut [u32],
-) -> bool
-    ensures { result ≡ passes script.now refusal refused_at want.now (length work.old) (length activities.old) (length out.old) }
-{
-    fill(work);
-    fill_floats(activities);
-    fill(out);
-    match engine::run(script, work, activities, out) {
-        Ok(cells) => {
-            if refusal != 0 {
-                return false;
-            }
-            is_run(script, want, cells, work, activities, out)
-        }
-        Err(refused) => {
-            let number = refused.rule.number();
-            let place = refused.place;
-            if refusal != number {
-                return false;
-            }
-            if u64::from(refused_at) != place {
-                return false;
-            }
-            is_untouched(work, activities, out)
+impl Slices<'_> {
+    // All of them full of noise.
+    fn fill(&mut self)
+        ensures work { self.new.work.now ≡ noise_cells (length self.old.work.now) }
+        ensures activities { self.new.activities.now ≡ noise_floats (length self.old.activities.now) }
+        ensures out { self.new.out.now ≡ noise_cells (length self.old.out.now) }
+    {
+        fill(self.work);
+        fill(self.activities);
+        fill(self.out);
+    }
+
+    // Whether a run that wrote n out cells left the slices so.
+    #[tactic(auto, using(crate::specs::VectorLaws::is_run_tests))]
+    fn is_run(&self, script: &[u32], want: &[u32], n: u64) -> bool
+        ensures { result ≡ is_run script.now want.now n self.now.work.now self.now.activities.now self.now.out.now }
+    {
+        n == want.len() as u64
+            && is_clear(self.work, cleared(script))
+            && is_clear(self.activities, variables(script))
+            && is_out(self.out, want)
+    }
+
+    // Whether the slices are as they were.
+    #[tactic(auto, unfolding(crate::specs::Vector::untouched))]
+    fn is_untouched(&self) -> bool
+        ensures { result ≡ untouched self.now.work.now self.now.activities.now self.now.out.now }
+    {
+        is_noise(self.work, 0) && is_noise(self.activities, 0) && is_noise(self.out, 0)
+    }
+
+    // Whether a script gives the refusal, or the out cells, that are wanted.
+    // The refusal stays two numbers: 0 stands for none, a number that is no rule's has to fail, and both are only compared.
+    fn gives(&mut self, script: &[u32], refusal: u32, refused_at: u32, want: &[u32]) -> bool
+        ensures { result ≡ passes script.now refusal refused_at want.now (length self.old.work.now) (length self.old.activities.now) (length self.old.out.now) }
+    {
+        self.fill();
+        match engine::run(script, self.work, self.activities, self.out) {
+            Ok(cells) => refusal == 0 && self.is_run(script, want, cells),
+            Err(refused) => is_refusal(refused, refusal, refused_at) && self.is_untouched(),
         }
     }
 }
 
 // Whether the numbers of a line hold; false if they ask for more than there is.
+// The slices stand one by one here and in `line_holds`: as methods of `Slices` and of `Room`, which would lend parts of their fields, the borrow checker
+// did not take them.
+#[tactic(auto, unfolding(crate::specs::Vector::vector_holds))]
 fn holds(numbers: &[u32], work: &mut [u32], activities: &mut [f64], out: &mut [u32]) -> bool
     ensures { result ≡ vector_holds numbers.now (length work.old) (length activities.old) (length out.old) }
 {
-    if numbers.len() < 6 {
+    let [w, a, o, refusal, refused_at, count, cells @ ..] = numbers else {
+        return false;
+    };
+    let w = *w as usize;
+    let a = *a as usize;
+    let o = *o as usize;
+    let count = *count as usize;
+    if work.len() < w || activities.len() < a || out.len() < o || cells.len() < count {
         return false;
     }
-    let w = numbers[0] as usize;
-    let a = numbers[1] as usize;
-    let o = numbers[2] as usize;
-    let count = numbers[5] as usize;
-    if work.len() < w {
-        return false;
-    }
-    if activities.len() < a {
-        return false;
-    }
-    if out.len() < o {
-        return false;
-    }
-    if numbers.len() - 6 < count {
-        return false;
-    }
-    let end = 6 + count;
-    gives(
-        &numbers[6..end],
-        numbers[3],
-        numbers[4],
-        &numbers[end..],
-        &mut work[..w],
-        &mut activities[..a],
-        &mut out[..o],
-    )
+    let mut slices = Slices {
+        work: &mut work[..w],
+        activities: &mut activities[..a],
+        out: &mut out[..o],
+    };
+    slices.gives(&cells[..count], *refusal, *refused_at, &cells[count..])
 }
 
 // ---- the text
 
-// Stores the numbers behind the name of a line; none if a word is no number, or they do not fit.
+// Stores the numbers behind the name of a line: 0 of them if a word is no number, or they do not fit. A line without numbers does not hold either, so no Option.
+// Cut by hand, as in `group` and `groups`: what is left is handed on, and would have to be read off `Words` and `Lines` of crate text at the same places.
 fn numbers(line: &[u8], cells: &mut [u32]) -> usize
     ensures { (result ≤ length cells.new) × (take result cells.new ≡ line_numbers (length cells.old) line.now) }
 {
     let (_, mut left) = text::cut(line, b' ');
-    let mut k = 0;
-    while let Some(words) = left {
+    for (k, cell) in cells.iter_mut().enumerate() {
+        let Some(words) = left else {
+            return k;
+        };
         let (word, behind) = text::cut(words, b' ');
         let Some(x) = text::decimal(word) else {
             return 0;
         };
-        if cells.len() <= k {
-            return 0;
-        }
-        cells[k] = x;
-        k += 1;
+        *cell = x;
         left = behind;
     }
-    k
+    match left {
+        Some(_) => 0,
+        None => cells.len(),
+    }
+}
+
+// Whether a line is a vector that holds.
+fn line_holds(
+    line: &[u8],
+    cells: &mut [u32],
+    work: &mut [u32],
+    activities: &mut [f64],
+    out: &mut [u32],
+) -> bool
+    ensures { result ≡ line_holds record { cells = length cells.old; work = length work.old; activities = length activities.old; out = length out.old } line.now }
+{
+    let n = numbers(line, cells);
+    holds(&cells[..n], work, activities, out)
 }
 
 // How many scripts gave what they should, and how many did not.
-#[derive(Clone, Copy)]
+#[derive(Clone, Copy, Default)]
 struct Tally {
     passed: u64,
     failed: u64,
 }
 
+// A function and no `Add`: the `impl` would be longer, and `+` would not show that it wraps.
 fn sum(a: Tally, b: Tally) -> Tally
     ensures { result ≡ added a b }
 {
@@ -287,97 +301,89 @@ fn show_failed(rt: &impl Print, line: &[u8]) {
     let _ = println!(rt);
 }
 
-// One script.
-fn script(
-    rt: &impl Print,
-    line: &[u8],
-    cells: &mut [u32],
-    work: &mut [u32],
-    activities: &mut [f64],
-    out: &mut [u32],
-) -> Tally
-    ensures { result ≡ one (line_holds (length cells.old) (length work.old) (length activities.old) (length out.old) line.now) }
-{
-    let n = numbers(line, cells);
-    if holds(&cells[..n], work, activities, out) {
-        return Tally {
-            passed: 1,
-            failed: 0,
-        };
-    }
-    show_failed(rt, line);
-    Tally {
-        passed: 0,
-        failed: 1,
-    }
+// The cells for a line's numbers, and the slices that scripts run over, of which a `Slices` has the parts that a script asks for.
+// A contract sees how long they are.
+#[derive(Drop)]
+struct Room<'a> {
+    cells: &'a mut [u32],
+    work: &'a mut [u32],
+    activities: &'a mut [f64],
+    out: &'a mut [u32],
 }
 
-// The scripts up to the next group, and the text from it on.
-fn group<'a>(
-    rt: &impl Print,
-    input: &'a [u8],
-    cells: &mut [u32],
-    work: &mut [u32],
-    activities: &mut [f64],
-    out: &mut [u32],
-) -> (Tally, &'a [u8])
-    ensures { Grouped (line_holds (length cells.old) (length work.old) (length activities.old) (length out.old)) input.now result.1.now result.0 }
-{
-    let mut t = Tally {
-        passed: 0,
-        failed: 0,
-    };
-    let mut left = input;
-    while !left.is_empty() {
-        let (line, behind) = text::cut(left, b'\n');
-        if line.starts_with(b"group ") {
-            return (t, left);
+impl<'a> Model for Room<'a> {
+    ghost use Rattle.std.specs.Prelude.{length};
+    ghost use Rattle.replay.specs.Lines.{Lengths};
+
+    ghost Value = { Lengths };
+
+    ghost view = { λ r. record { cells = length r.cells.now; work = length r.work.now; activities = length r.activities.now; out = length r.out.now } };
+}
+
+impl Room<'_> {
+    // One script.
+    fn script(&mut self, rt: &impl Print, line: &[u8]) -> Tally
+        ensures tally { result ≡ one (line_holds self.old line.now) }
+        ensures room { self.new ≡ self.old }
+    {
+        if line_holds(line, self.cells, self.work, self.activities, self.out) {
+            return Tally {
+                passed: 1,
+                failed: 0,
+            };
         }
-        t = sum(t, script(rt, line, cells, work, activities, out));
-        left = behind.unwrap_or(&[]);
+        show_failed(rt, line);
+        Tally {
+            passed: 0,
+            failed: 1,
+        }
     }
-    (t, left)
-}
 
-// All groups, a line for each; and all of them counted.
-fn groups(
-    rt: &impl Print,
-    input: &[u8],
-    cells: &mut [u32],
-    work: &mut [u32],
-    activities: &mut [f64],
-    out: &mut [u32],
-) -> Tally
-    ensures { result ≡ tallied (line_holds (length cells.old) (length work.old) (length activities.old) (length out.old)) (all_scripts (lines input.now)) }
-{
-    let mut all = Tally {
-        passed: 0,
-        failed: 0,
-    };
-    let mut left = input;
-    while !left.is_empty() {
-        let (title, behind) = text::cut(left, b'\n');
-        let (t, next) = group(rt, behind.unwrap_or(&[]), cells, work, activities, out);
-        show(rt, title, t);
-        all = sum(all, t);
-        left = next;
+    // The scripts up to the next group, and the text from it on.
+    fn group<'t>(&mut self, rt: &impl Print, input: &'t [u8]) -> (Tally, &'t [u8])
+        ensures grouped { Grouped (line_holds self.old) input.now result.1.now result.0 }
+        ensures room { self.new ≡ self.old }
+    {
+        let mut t = Tally::default();
+        let mut left = input;
+        while !left.is_empty() {
+            let (line, behind) = text::cut(left, b'\n');
+            if line.starts_with(b"group ") {
+                return (t, left);
+            }
+            t = sum(t, self.script(rt, line));
+            left = behind.unwrap_or(&[]);
+        }
+        (t, left)
     }
-    all
+
+    // All groups, a line for each; and all of them counted.
+    fn groups(&mut self, rt: &impl Print, input: &[u8]) -> Tally
+        ensures tally { result ≡ tallied (line_holds self.old) (all_scripts (lines input.now)) }
+        ensures room { self.new ≡ self.old }
+    {
+        let mut all = Tally::default();
+        let mut left = input;
+        while !left.is_empty() {
+            let (title, behind) = text::cut(left, b'\n');
+            let (t, next) = self.group(rt, behind.unwrap_or(&[]));
+            show(rt, title, t);
+            all = sum(all, t);
+            left = next;
+        }
+        all
+    }
+
+    fn replay(&mut self, rt: &impl Print, input: &[u8])
+        ensures { self.new ≡ self.old }
+    {
+        let all = self.groups(rt, input);
+        show(rt, b"all", all);
+    }
 }
 
-fn replay(
-    rt: &impl Print,
-    input: &[u8],
-    cells: &mut [u32],
-    work: &mut [u32],
-    activities: &mut [f64],
-    out: &mut [u32],
-) {
-    let all = groups(rt, input, cells, work, activities, out);
-    show(rt, b"all", all);
-}
-
-// Reads until the slice is full, the input ends or a read fails: how many bytes were put at the start of the slice.
+// Reads until the slice is full, the input ends or a read fails, after which `read_all` of crate loadsat gives up and this does not:
+// how many bytes were put at the start of the slice. By hand, since `read_to_end` fills a Vec, and there is no heap.
 fn read_full<R: Read>(from: &mut R, input: &mut [u8]) -> usize
     ensures { result ≤ length input.new }
 {
@@ -395,21 +401,13 @@ fn read_full<R: Read>(from: &mut R, input: &mut [u8]) -> usize
 }
 
 // From where the input comes, which must leave a byte of its slice free: else it may be cut off.
-fn serve<R: Read>(
-    rt: &impl Print,
-    from: &mut R,
-    input: &mut [u8],
-    cells: &mut [u32],
-    work: &mut [u32],
-    activities: &mut [f64],
-    out: &mut [u32],
-) {
+fn serve<R: Read>(rt: &impl Print, from: &mut R, input: &mut [u8], room: &mut Room) {
     let n = read_full(from, input);
     if n == input.len() {
         let _ = rt.println("too long");
         return;
     }
-    replay(rt, &input[..n], cells, work, activities, out);
+    room.replay(rt, &input[..n]);
 }
 
 // The same, with slices of so many cells. A proof does not spell out arrays whose lengths are parameters.
@@ -428,15 +426,13 @@ fn serve_with<
     let mut work = [0u32; WORK];
     let mut activities = [0.0f64; ACTIVITIES];
     let mut out = [0u32; CELLS];
-    serve(
-        rt,
-        from,
-        &mut input,
-        &mut cells,
-        &mut work,
-        &mut activities,
-        &mut out,
-    );
+    let mut room = Room {
+        cells: &mut cells,
+        work: &mut work,
+        activities: &mut activities,
+        out: &mut out,
+    };
+    serve(rt, from, &mut input, &mut room);
 }
 
 fn main(rt: HostRuntime) {

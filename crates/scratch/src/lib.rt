@@ -4,12 +4,14 @@
 
 ghost use Rattle.std.specs.Prelude.{◌≡◌, ◌*◌, ◌≤◌, ◌<◌, [], ◌∷◌, ◌++◌, eqb, length, get_or, set, take, drop, replicate};
 ghost use Rattle.std.specs.List.Sorted.{IsPermutation, IsNonDecreasing};
-ghost use Rattle.scratch.specs.Row.{Sound, row, pushed, put};
+ghost use Rattle.scratch.specs.Marks.{SoundMarks};
+ghost use Rattle.scratch.specs.Row.{Sound, row, pushed, put, exchanged, filled};
 
 use clause::{Lit, Var};
 use std::marker::Model;
 
-// A mark by variable: 1 where it is set, and else 0.
+// A mark by variable: 1 where it is set, and else 0. Cells and not bools: they are lent as numbers, and the rules read a mark as a cell.
+// That a variable has a mark is asked where it is used, as in crate trail.
 #[derive(Drop)]
 pub struct Marks<'a> {
     cells: &'a mut [u32],
@@ -21,6 +23,10 @@ impl<'a> Model for Marks<'a> {
     ghost Value = { List ℕ };
 
     ghost view = { λ m. m.cells.now };
+
+    ghost use Rattle.scratch.specs.Marks.{SoundMarks};
+
+    ghost invariant = { λ m. SoundMarks m.cells.now };
 }
 
 impl<'a> Marks<'a> {
@@ -32,6 +38,13 @@ impl<'a> Marks<'a> {
         Marks { cells }
     }
 
+    // What is true of all marks, for a caller's proof. Each block has such a method: a trait of them would have the same lines in each `impl`, and its fact besides.
+    pub fn sound(&self)
+        ensures { SoundMarks self.now }
+    {
+        let _ = &self.cells;
+    }
+
     pub fn is_set(&self, v: Var) -> bool
         requires { v.0 < length self.now }
         ensures { result ≡ eqb (get_or self.now v.0 0) 1 }
@@ -39,6 +52,7 @@ impl<'a> Marks<'a> {
         self.cells[v.0 as usize] == 1
     }
 
+    // `set` and `unset`, and no function that takes 0 or 1: each call says which.
     pub fn set(&mut self, v: Var)
         requires { v.0 < length self.old }
         ensures { self.new ≡ set self.old v.0 1 }
@@ -54,7 +68,7 @@ impl<'a> Marks<'a> {
     }
 }
 
-// A list of literals in cells that are lent, as many as they have room for.
+// A list of literals in cells that are lent, as many as they have room for: there is no heap for a Vec. No method reads a cell past its end.
 #[derive(Drop)]
 pub struct Lits<'a> {
     cells: &'a mut [u32],
@@ -99,6 +113,13 @@ impl<'a> Lits<'a> {
         &self.cells[..self.len]
     }
 
+    // The literals behind the first.
+    pub fn rest(&self) -> &[u32]
+        ensures { result.now ≡ drop 1 self.now.items }
+    {
+        self.items().get(1..).unwrap_or(&[])
+    }
+
     pub fn at(&self, k: usize) -> Lit
         requires { k < length self.now.items }
         ensures { result.0 ≡ get_or self.now.items k 0 }
@@ -115,6 +136,15 @@ impl<'a> Lits<'a> {
         cells[k] = p.0;
     }
 
+    // Literals i and j change places.
+    pub fn swap(&mut self, i: usize, j: usize)
+        requires i_in_bounds { i < length self.old.items }
+        requires j_in_bounds { j < length self.old.items }
+        ensures { self.new ≡ exchanged self.old i j }
+    {
+        self.cells.swap(i, j);
+    }
+
     pub fn push(&mut self, p: Lit)
         requires { length self.old.items < length self.old.cells }
         ensures { self.new ≡ pushed self.old p.0 }
@@ -123,7 +153,16 @@ impl<'a> Lits<'a> {
         self.len += 1;
     }
 
-    // Takes the last literal off.
+    // The literals of a slice, and no others.
+    pub fn set_all(&mut self, part: &[u32])
+        requires { length part.now ≤ length self.old.cells }
+        ensures { self.new ≡ filled self.old part.now }
+    {
+        put_front(self.cells, part);
+        self.len = part.len();
+    }
+
+    // Takes the last literal off. No Option: whoever asks knows that there is one.
     pub fn pop(&mut self) -> Lit
         requires { 0 < length self.old.items }
         ensures items { self.old.items ≡ self.new.items ++ result.0 ∷ [] }
@@ -151,11 +190,21 @@ impl<'a> Lits<'a> {
         ensures moved { IsPermutation self.old.items self.new.items }
         ensures sorted { IsNonDecreasing self.new.items }
         ensures cells { length self.new.cells ≡ length self.old.cells }
+        ensures behind { drop (length self.old.items) self.new.cells ≡ drop (length self.old.items) self.old.cells }
     {
         self.cells[..self.len].sort_unstable();
     }
 }
 
+// The first cells become those of the part: what `cells::put` does, in a crate that knows no answers.
+fn put_front(cells: &mut [u32], part: &[u32])
+    requires { length part.now ≤ length cells.old }
+    ensures { cells.new ≡ part.now ++ drop (length part.now) cells.old }
+{
+    cells[..part.len()].copy_from_slice(part);
+}
+
+// Four parts of one slice that is lent: there is no heap.
 #[derive(Drop)]
 pub struct Scratch<'a> {
     pub marks: Marks<'a>,

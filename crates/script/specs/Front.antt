@@ -5,6 +5,7 @@ use Rattle.model.specs.Limits as Limits
 use Rattle.model.specs.Limits.{header_cells}
 use Rattle.model.specs.Script.{Config, Row, header, header_rows, slice_rows, record_rows, records, records_of, out_needed, out_rows, accepted, judge, read}
 use Rattle.refusal.specs.declared.Refusal.{Refusal}
+use Rattle.options.specs.Numbers.{mode_number, phase_number}
 use Rattle.script.specs.declared.Header.{Header}
 use Rattle.script.specs.Judging.{Judged, reading_of, Hold}
 use Rattle.script.specs.Sound.{and_left, and_right}
@@ -17,7 +18,15 @@ from_one x high = leb 1 x && leb x high
 
 -- what a header's cells say
 abbrev pub config_of : Header → Config
-config_of h = record { variables = h.variables; max_clauses = h.clauses; max_literals = h.literals; mode = h.mode; phase = h.phase; unit = h.unit }
+config_of h =
+    record {
+      variables = h.variables;
+      max_clauses = h.clauses;
+      max_literals = h.literals;
+      mode = mode_number h.mode;
+      phase = phase_number h.phase;
+      unit = h.unit;
+    }
 
 -- ---- what a header says whose rows hold
 

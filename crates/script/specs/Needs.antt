@@ -1,5 +1,5 @@
 -- The rows of a script in the parts that the code judges, and the lengths that a script needs.
-use Rattle.std.specs.Prelude.{ℕ, ◌+◌, ◌*◌, ◌≤◌, ◌<◌, min, Bool, ◌&&◌, List, [], ◌∷◌, ◌++◌, length, drop, Option, Some, None, Ok, Err, unwrap_or}
+use Rattle.std.specs.Prelude.{ℕ, ◌+◌, ◌*◌, ◌≤◌, ◌<◌, min, Bool, List, ◌++◌, length, drop, Option, Some, None, Ok, Err, unwrap_or}
 use Rattle.std.proofs.Math.Path.{◌≡◌, refl}
 use Rattle.std.proofs.Common.{sym, ap, ◌∙◌, arith}
 use Rattle.std.proofs.Math.Bool.{true, false}
@@ -8,23 +8,12 @@ use Rattle.std.proofs.Math.Decide.{dec_lt}
 use borrow.Author.Tests.{le-leb, lt-leb, leb-true, leb-false}
 use Rattle.model.specs.Limits as Limits
 use Rattle.model.specs.Limits.{header_cells}
-use Rattle.model.specs.Script.{Config, kind_of, cost, Row, row, Reading, refused, accepted, header, header_rows, slice_rows, out_rows, record_rows, out_needed, work_needed, records_of, judge}
+use Rattle.model.specs.Script.{Config, kind_of, cost, Row, Reading, refused, accepted, header, header_rows, slice_rows, out_rows, record_rows, out_needed, work_needed, records_of, judge}
 use Rattle.refusal.specs.declared.Refusal.{Refusal}
 use Rattle.script.specs.Judging.{Judged, judge-append}
 use Rattle.script.specs.Walk.{record_at, next_at, records_from, records_step, records_end, rows_from}
 
 -- ---- rows
-
--- rows 2 to 4
-abbrev pub field_rows : Config → List Row
-field_rows h =
-    row 2 (leb 1 h.variables && leb h.variables Limits.max_variables) 0
-    ∷ row 3 (leb h.max_clauses Limits.max_clauses) 1
-    ∷ row 3 (leb h.max_literals Limits.max_literals) 2
-    ∷ row 4 (leb h.mode Limits.max_mode) 3
-    ∷ row 4 (leb h.phase Limits.max_phase) 4
-    ∷ row 4 (leb 1 h.unit && leb h.unit Limits.max_unit) 5
-    ∷ []
 
 -- the whole table for a script with this header, part by part
 abbrev pub script_rows : Config → List ℕ → ℕ → ℕ → ℕ → List Row

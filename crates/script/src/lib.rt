@@ -1,7 +1,7 @@
 // The reading of a script: what is turned back, and the records of what is accepted.
 #![tactic(auto)]
 
-ghost use Rattle.std.specs.Prelude.{◌≡◌, leb, ◌+◌, ◌≤◌, ◌<◌, ◌^◌, ◌∷◌, [], min, length, IfOk};
+ghost use Rattle.std.specs.Prelude.{◌≡◌, ◌+◌, ◌<◌, ◌^◌, ◌∷◌, [], min, length, IfOk};
 ghost use Rattle.model.specs.Limits.{header_cells};
 ghost use Rattle.model.specs.Script.{row, known, most_count, trailing, cost, literal_rows, out_rows, work_needed, slice_rows, header_rows, kind_of, read};
 ghost use Rattle.model.specs.Script.{header as header_of};
@@ -11,8 +11,9 @@ ghost use Rattle.script.specs.Kinds.{cell_of, IsKindOf, record_of, literals_of, 
 ghost use Rattle.script.specs.Walk.{record_at, RecordAt, head_rows, budget_rows, rows_at, rows_from};
 ghost use Rattle.script.specs.Sound.{Readable, Readable-prop};
 ghost use Rattle.script.specs.Front.{from_one, config_of};
-ghost use Rattle.script.specs.Needs.{field_rows, sized, within, out_len_of};
+ghost use Rattle.script.specs.Needs.{sized, within, out_len_of};
 
+use options::{Mode, Phase};
 use refusal::{Refusal, Rule};
 
 // The limits of document 01.
@@ -26,10 +27,6 @@ const MAX_LITERALS: u32 = 1048576;
 
 // A clause's count is at most this.
 const LONGEST_CLAUSE: usize = 211;
-
-const MAX_MODE: u32 = 2;
-
-const MAX_PHASE: u32 = 2;
 
 const MAX_UNIT: u32 = 1000;
 
@@ -57,7 +54,8 @@ pub fn check(holds: bool, rule: Rule, place: u64) -> Result<(), Refusal>
 
 // ---- the header
 
-fn from_one(x: u32, high: u32) -> bool
+// From 1 on, up to a limit: so many variables, literals or conflicts.
+pub fn from_one(x: usize, high: usize) -> bool
     ensures { result ≡ from_one x high }
 {
     1 <= x && x <= high
@@ -69,58 +67,46 @@ pub struct Header {
     pub variables: u32,
     pub clauses: u32,
     pub literals: u32,
-    pub mode: u32,
-    pub phase: u32,
+    pub mode: Mode,
+    pub phase: Phase,
     pub unit: u32,
 }
 
 impl Header {
-    // Row 1.
-    #[tactic(auto, unfolding(model::specs::Script::header))]
-    fn cells(script: &[u32]) -> Result<Header, Refusal>
-        ensures judged { Judged result (row 1 (leb header_cells (length script.now)) (length script.now) ∷ []) }
-        ensures header { IfOk result (λ h. config_of h ≡ header_of script.now) }
-    {
-        match script {
-            [variables, clauses, literals, mode, phase, unit, ..] => Ok(Header {
-                variables: *variables,
-                clauses: *clauses,
-                literals: *literals,
-                mode: *mode,
-                phase: *phase,
-                unit: *unit,
-            }),
-            _ => Err(Refusal {
-                rule: Rule::ShortHeader,
-                place: script.len() as u64,
-            }),
-        }
-    }
-
-    // Rows 2 to 4.
-    fn judge(self) -> Result<(), Refusal>
-        ensures { Judged result (field_rows (config_of self)) }
-    {
-        check(
-            from_one(self.variables, MAX_VARIABLES),
-            Rule::BadVariables,
-            0,
-        )?;
-        check(self.clauses <= MAX_CLAUSES, Rule::BadLimits, 1)?;
-        check(self.literals <= MAX_LITERALS, Rule::BadLimits, 2)?;
-        check(self.mode <= MAX_MODE, Rule::BadOptions, 3)?;
-        check(self.phase <= MAX_PHASE, Rule::BadOptions, 4)?;
-        check(from_one(self.unit, MAX_UNIT), Rule::BadOptions, 5)
-    }
-
     // A script's header, if its rows hold.
+    #[tactic(auto, unfolding(model::specs::Script::header))]
     fn read(script: &[u32]) -> Result<Header, Refusal>
         ensures judged { Judged result (header_rows (length script.now) (header_of script.now)) }
         ensures header { IfOk result (λ h. config_of h ≡ header_of script.now) }
     {
-        let header = Header::cells(script)?;
-        header.judge()?;
-        Ok(header)
+        let [variables, clauses, literals, mode, phase, unit, ..] = script else {
+            return Err(Refusal {
+                rule: Rule::ShortHeader,
+                place: script.len() as u64,
+            });
+        };
+        check(
+            from_one(*variables as usize, MAX_VARIABLES as usize),
+            Rule::BadVariables,
+            0,
+        )?;
+        check(*clauses <= MAX_CLAUSES, Rule::BadLimits, 1)?;
+        check(*literals <= MAX_LITERALS, Rule::BadLimits, 2)?;
+        check(*mode <= Mode::Minimise as u32, Rule::BadOptions, 3)?;
+        check(*phase <= Phase::Full as u32, Rule::BadOptions, 4)?;
+        check(
+            from_one(*unit as usize, MAX_UNIT as usize),
+            Rule::BadOptions,
+            5,
+        )?;
+        Ok(Header {
+            variables: *variables,
+            clauses: *clauses,
+            literals: *literals,
+            mode: Mode::from(*mode),
+            phase: Phase::from(*phase),
+            unit: *unit,
+        })
     }
 
     // The work cells that a script with this header needs.
@@ -141,7 +127,7 @@ impl Header {
     }
 }
 
-// The work cells that a script of V variables, C stored clauses and L stored literals needs.
+// The work cells that a script of V variables, C stored clauses and L stored literals needs: of three numbers, since C asks before there is a header.
 pub fn work_len(v: u32, c: u32, l: u32) -> u64
     ensures { result ≡ work_needed (sized v c l) }
 {
@@ -215,13 +201,14 @@ pub enum Record<'a> {
 }
 
 impl<'a> Record<'a> {
-    // The record that begins at this cell.
+    // The record that begins at this cell. Here and in the rows below by its place in the whole script, since a refusal names the place.
     pub fn read(script: &'a [u32], at: usize) -> Record<'a>
         requires { RecordAt script.now at }
         ensures { record_of result ≡ record_at script.now at }
     {
         let end = at + 2 + script[at + 1] as usize;
         let literals = &script[at + 2..end];
+        // By the number: of a record that holds it is a kind's, and `Kind::try_from` would leave an error to answer.
         if script[at] == Kind::Solve as u32 {
             return Record::Solve {
                 assumptions: literals,
@@ -250,7 +237,7 @@ impl<'a> Record<'a> {
         }
     }
 
-    // The cells that it takes in a script.
+    // The cells that it takes in a script: by its two cases, since by `literals` and `Kind::trailing` they would be told twice.
     pub fn cells(self) -> usize
         ensures { result ≡ cells_of (record_of self.entry) }
     {
@@ -293,6 +280,7 @@ fn judge_kind(cell: u32, at: usize) -> Result<Kind, Refusal>
     ensures judged { Judged result (row 7 (known cell) at ∷ []) }
     ensures kind { IfOk result (λ kind. cell_of kind ≡ cell) }
 {
+    // By a match: with `map_err` the proof of both clauses did not close.
     match Kind::try_from(cell) {
         Ok(kind) => Ok(kind),
         Err(rule) => Err(Refusal {
@@ -393,6 +381,7 @@ impl<'a> Script<'a> {
     fn judge_out(self, out: usize) -> Result<(), Refusal>
         ensures { Judged result (out_rows (need_of self.entry) out) }
     {
+        // By a match, and not by `check`: the place is counted only where the row does not hold.
         match self.out_need(out as u64) {
             Some(_) => Ok(()),
             None => Err(Refusal {
@@ -420,7 +409,7 @@ impl<'a> Script<'a> {
     }
 }
 
-// The out cells that a script asks for: 0 where its header or a record is turned back, and never more than the largest u64.
+// The out cells that a script asks for, never more than the largest u64; 0 where its header or a record is turned back, since C takes no Option.
 pub fn out_len(script: &[u32]) -> u64
     ensures { result ≡ out_len_of script.now }
 {

@@ -21,6 +21,7 @@ use Rattle.watching.specs.Result.{Rested, Clashed}
 use Rattle.watching.proofs.Result.{propagated}
 use Rattle.ends.specs.Credit.{Ongoing}
 use Rattle.ends.proofs.Cases.{conflict_cases, no_conflict_cases}
+use Rattle.options.specs.Numbers.{phase_number}
 use Rattle.activity.specs.Activities.{decay_sized}
 use Rattle.state.specs.declared.Config.{Config}
 use Rattle.state.specs.declared.State.{State}
@@ -151,7 +152,7 @@ status_then Failed = some Status.False
 
 module _ (x : Solver) (ps : List ℕ) (n : Conflicts) (budget nof : ℕ) where
   -- a restart, or the budget is spent
-  pub halts : (nof ≤ n.search) ⊎ ((n.search < nof) × (budget ≤ n.solve)) → {s₁ : State} → Has s₁ (cancel_until x.state.config.phase (state_at x.state) 0) → Beside x.state s₁
+  pub halts : (nof ≤ n.search) ⊎ ((n.search < nof) × (budget ≤ n.solve)) → {s₁ : State} → Has s₁ (cancel_until (phase_number x.state.config.phase) (state_at x.state) 0) → Beside x.state s₁
       → Turned (on_no_conflict (config_of x.state.config) ps budget nof n.solve n.search (solver_at x)) x (record { state = s₁; activity = x.activity }) n (some Status.Undef)
   halts t {s₁} h b =
       record {

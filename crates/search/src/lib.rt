@@ -20,7 +20,7 @@ pub struct Solver<'a> {
     pub activity: Activities<'a>,
 }
 
-// What a solve asks.
+// What a solve asks: what a record of it holds, in a crate that knows no script.
 #[derive(Clone, Copy)]
 pub struct Query<'q> {
     pub assumptions: &'q [u32],
@@ -78,7 +78,7 @@ fn on_no_conflict(x: &mut Solver, q: Query, nof: u32, n: Conflicts) -> Option<St
     }
 }
 
-// One turn of the search: how it ends, if it does.
+// One turn of the search: how it ends, if it does. What it takes stands apart: q is the solve's, nof the search's, and n is counted on.
 fn turn(x: &mut Solver, q: Query, nof: u32, n: &mut Conflicts) -> Option<Status>
     requires running { Running q.assumptions.now x.old }
     requires few { (n.old.solve < 4294967295) × (n.old.search < 4294967295) }
@@ -126,6 +126,7 @@ pub fn solve_internal(x: &mut Solver, q: Query) -> Searched
 {
     let mut restarts = 0;
     let mut conflicts = 0;
+    // A `for` over the restarts would have an end that is never reached, and need an answer there.
     loop {
         let nof = luby::luby(restarts) * x.state.config.unit;
         let r = search(x, q, nof, conflicts);

@@ -4,7 +4,6 @@ pub mod SetsLaws
 pub mod Number
 pub mod Runs
 pub mod ScoreLaws
-pub mod Place
 pub mod Pick
 pub mod AnswerLaws
 pub mod Tell

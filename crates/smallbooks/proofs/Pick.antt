@@ -1,51 +1,23 @@
 -- The clauses, as the code picks them literal by literal and puts their records into a table.
-use Rattle.std.specs.Prelude.{◌≡◌, refl, ◌≢◌, Bool, true, false, ◌&&◌, List, [], ◌∷◌, ◌++◌, map, ℕ, zero, suc, ◌+◌, ◌-◌, ◌*◌, ◌/◌, ◌≤◌, ◌<◌, length, get_or, take, set}
+use Rattle.std.specs.Prelude.{◌≡◌, refl, Bool, true, false, ◌&&◌, not, List, [], ◌∷◌, ◌++◌, map, ℕ, zero, suc, ◌+◌, ◌-◌, ◌*◌, ◌/◌, ◌≤◌, ◌<◌, length, take, drop, eqb}
 use Rattle.std.proofs.Math.Path.{ap}
-use Rattle.std.proofs.Common.{ap₂, sym, ◌∙◌, map-id, append_assoc, append-nil, arith, add-one, length-append, length-set, length-drop, take-take, take_at, take-suc-set, drop-cons, length-take-le, eq-eqb, ne_eqb}
-use Rattle.std.proofs.Math.Bool.{not}
-use Rattle.std.proofs.Math.ListN.{drop}
+use Rattle.std.proofs.Common.{ap₂, sym, ◌∙◌, map-id, append_assoc, append-nil, arith, add-one, length-append, take_at}
+use Rattle.std.specs.List.{list_all, zip}
 use Rattle.model.specs.Lit.{var}
-use Rattle.text.specs.WriteLaws.{Written, joined, written_as, written_none, written_long}
 use Rattle.smallbooks.specs.Choose.{combinations, of_sizes}
 use Rattle.smallbooks.proofs.Choose.{sizes_split, sizes_last}
 use Rattle.smallbooks.specs.Books.{upward, literals, apart, filter, clauses, record_of, records_of}
 use Rattle.smallbooks.proofs.SetsLaws.{filter-append}
-use Rattle.smallbooks.proofs.Place.{written_end, record_length}
-use Rattle.smallbooks.specs.Pick.{if_apart, picked, Picking, Picked, gathered, Gathering}
+use Rattle.smallbooks.specs.Pick.{if_apart, picked, table_cells, Picking, gathered, Gathering}
 
 -- ---- no variable twice
 
-module _ (c : List ℕ) (i : ℕ) (h : i + 1 < length c) where
-  two : drop i c ≡ get_or c i 0 ∷ get_or c (i + 1) 0 ∷ drop (i + 2) c
-  two =
-      let e : suc i ≡ i + 1 = omega arith in
-      let f : suc (i + 1) ≡ i + 2 = omega arith in
-      drop-cons c i 0 (omega arith)
-      ∙ ap (λ (k : ℕ). get_or c i 0 ∷ drop k c) e
-      ∙ ap (λ (l : List ℕ). get_or c i 0 ∷ l) (drop-cons c (i + 1) 0 h)
-      ∙ ap (λ (k : ℕ). get_or c i 0 ∷ get_or c (i + 1) 0 ∷ drop k c) f
-
-  next : drop (i + 1) c ≡ get_or c (i + 1) 0 ∷ drop (i + 2) c
-  next = let f : suc (i + 1) ≡ i + 2 = omega arith in drop-cons c (i + 1) 0 h ∙ ap (λ (k : ℕ). get_or c (i + 1) 0 ∷ drop k c) f
-
-  pub apart_same : get_or c i 0 / 2 ≡ get_or c (i + 1) 0 / 2 → apart (drop i c) ≡ false
-  unfolding apart
-  apart_same e = ap apart two ∙ ap (λ (b : Bool). not b && apart (get_or c (i + 1) 0 ∷ drop (i + 2) c)) (eq-eqb (var (get_or c i 0)) (var (get_or c (i + 1) 0)) e)
-
-  pub apart_other : get_or c i 0 / 2 ≢ get_or c (i + 1) 0 / 2 → apart (drop i c) ≡ apart (drop (i + 1) c)
-  unfolding apart
-  apart_other n =
-      ap apart two ∙ ap (λ (b : Bool). not b && apart (get_or c (i + 1) 0 ∷ drop (i + 2) c)) (ne_eqb (var (get_or c i 0)) (var (get_or c (i + 1) 0)) n)
-      ∙ ap apart (sym next)
-
-apart_short : (c : List ℕ) → length c ≤ 1 → apart c ≡ true
+-- each literal beside the next
+pub apart_beside : (c : List ℕ) → list_all (λ (p : ℕ × ℕ). not (eqb (p.0 / 2) (p.1 / 2))) (zip c (drop 1 c)) ≡ apart c
 unfolding apart
-apart_short [] h = refl
-apart_short (l ∷ []) h = refl
-apart_short (l ∷ m ∷ c) h = absurd (omega arith)
-
-pub apart_end : (c : List ℕ) (i : ℕ) → length c ≤ i + 1 → apart (drop i c) ≡ true
-apart_end c i h = apart_short (drop i c) (omega (arith, length-drop i c))
+apart_beside [] = refl
+apart_beside (l ∷ []) = refl
+apart_beside (l ∷ m ∷ ls) = ap (λ (b : Bool). not (eqb (var l) (var m)) && b) (apart_beside (m ∷ ls))
 
 -- ---- a clause that is kept, or not
 
@@ -62,8 +34,19 @@ pub apart_left : (c : List ℕ) → apart c ≡ false → if_apart c ≡ []
 unfolding if_apart filter records_of
 apart_left c e = rw (e, filter) refl
 
-pub kept_room : (c : List ℕ) (at room : ℕ) → apart c ≡ true → at + length (if_apart c) ≤ room → at + (2 + length c) ≤ room
-kept_room c at room e h = omega (arith, ap length (apart_kept c e), record_length c)
+pub record_length : (c : List ℕ) → length (record_of c) ≡ 2 + length c
+unfolding record_of
+record_length c = omega arith
+
+module _ (c table : List ℕ) where
+  pub kept_room : apart c ≡ true → length table + length (if_apart c) ≤ table_cells → length table + (2 + length c) ≤ table_cells
+  kept_room e h = omega (arith, ap length (apart_kept c e), record_length c)
+
+  pub kept_joins : {table' : List ℕ} → apart c ≡ true → table' ≡ table ++ record_of c → table' ≡ table ++ if_apart c
+  kept_joins e h = h ∙ ap (λ (l : List ℕ). table ++ l) (sym (apart_kept c e))
+
+  pub left_out : apart c ≡ false → table ≡ table ++ if_apart c
+  left_out e = sym (append-nil table) ∙ ap (λ (l : List ℕ). table ++ l) (sym (apart_left c e))
 
 -- ---- the clauses of the literals p and k more, each from l to end - 1
 
@@ -105,81 +88,49 @@ picked_more p (suc k) l end h g =
     ∙ ap (λ (x : ℕ). records_of (filter apart (map (λ c. p ++ c) (combinations (suc k) (l ∷ upward x (end - (l + 1))))))) (add-one l)
     ∙ ap (λ (x : ℕ). records_of (filter apart (map (λ c. p ++ c) (combinations (suc k) (upward l x))))) e
 
-module _ {l end left : ℕ} {chosen : List ℕ} {n : ℕ} {table : List ℕ} {at : ℕ} (p : Picking l end left chosen n table at) (some : 1 ≤ left) (h : l < end) where
-  chosen_more : take (n + 1) (set chosen n l) ≡ take n chosen ++ l ∷ []
-  chosen_more = ap (λ (k : ℕ). take k (set chosen n l)) (add-one n) ∙ take-suc-set chosen n l (omega (arith, p.literals))
+module _ {l end left : ℕ} {chosen table one : List ℕ} (p : Picking l end left chosen table) (some : 1 ≤ left) (h : l < end) (e : one ≡ chosen ++ l ∷ []) where
+  both : picked one (left - 1) (l + 1) end ++ picked chosen left (l + 1) end ≡ picked chosen left l end
+  both = rw e (picked_more chosen left l end some h)
 
-  abbrev with_l : List ℕ
-  with_l = picked (take (n + 1) (set chosen n l)) (left - 1) (l + 1) end
+  both_long : length (picked one (left - 1) (l + 1) end) + length (picked chosen left (l + 1) end) ≡ length (picked chosen left l end)
+  both_long = sym (length-append (picked one (left - 1) (l + 1) end) (picked chosen left (l + 1) end)) ∙ ap length both
 
-  both : with_l ++ picked (take n chosen) left (l + 1) end ≡ picked (take n chosen) left l end
-  both =
-      ap (λ (q : List ℕ). picked q (left - 1) (l + 1) end ++ picked (take n chosen) left (l + 1) end) chosen_more
-      ∙ picked_more (take n chosen) left l end some h
+  pub picking_with : Picking (l + 1) end (left - 1) one table
+  picking_with = record { from = omega arith; literals = omega (arith, p.literals, ap length e, length-append chosen (l ∷ [])); room = omega (arith, p.room, both_long) }
 
-  both_long : length with_l + length (picked (take n chosen) left (l + 1) end) ≡ length (picked (take n chosen) left l end)
-  both_long = sym (length-append with_l (picked (take n chosen) left (l + 1) end)) ∙ ap length both
-
-  pub picking_with : Picking (l + 1) end (left - 1) (set chosen n l) (n + 1) table at
-  picking_with = record {
-    from = omega arith;
-    literals = omega (arith, p.literals, length-set chosen n l);
-    some = omega (arith, p.some, length-set chosen n l);
-    room = omega (arith, p.room, both_long);
-  }
-
-  module _ {chosen' table' : List ℕ} {k : ℕ} (q : Picked (l + 1) end (left - 1) (set chosen n l) (n + 1) table at chosen' table' k)
-      (long : length chosen' ≡ length (set chosen n l)) where
-    -- what was chosen before l still stands
-    still : take n chosen' ≡ take n chosen
+  module _ {popped chosen' table' : List ℕ} (t : popped ≡ take (length chosen' - 1) chosen') (k : chosen' ≡ one) (q : table' ≡ table ++ picked one (left - 1) (l + 1) end) where
+    still : popped ≡ chosen
     still =
-        sym (take-take n (n + 1) chosen' (omega arith)) ∙ ap (take n) (q.kept ∙ chosen_more)
-        ∙ take_at (take n chosen) (l ∷ []) n (length-take-le n chosen (omega (arith, p.literals)))
+        t ∙ ap (λ (c : List ℕ). take (length c - 1) c) (k ∙ e)
+        ∙ take_at chosen (l ∷ []) (length (chosen ++ l ∷ []) - 1) (omega (arith, length-append chosen (l ∷ [])))
 
-    pub picking_without : Picking (l + 1) end left chosen' n table' k
-    picking_without = record {
+    pub picking_without : Picking (l + 1) end left popped table'
+    picking_without = rw still (record {
       from = omega arith;
-      literals = omega (arith, p.literals, long, length-set chosen n l);
-      some = omega (arith, p.some, long, length-set chosen n l);
-      room = omega (
-        arith,
-        p.room,
-        both_long,
-        written_end q.cells picking_with.room,
-        written_long q.cells,
-        ap (λ (t : List ℕ). length (picked t left (l + 1) end)) still,
-      );
-    }
+      literals = p.literals;
+      room = omega (arith, p.room, both_long, ap length q, length-append table (picked one (left - 1) (l + 1) end));
+    })
 
-    pub picked_both : {chosen'' table'' : List ℕ} {r : ℕ} → Picked (l + 1) end left chosen' n table' k chosen'' table'' r
-        → Picked l end left chosen n table at chosen'' table'' r
-    picked_both {chosen''} {table''} {r} z = record {
-      kept = z.kept ∙ still;
-      cells =
-          written_as (picked (take n chosen) left l end)
-          (joined q.cells (written_as (picked (take n chosen) left (l + 1) end) z.cells (ap (λ (t : List ℕ). picked t left (l + 1) end) still)))
-          both;
-    }
+    pub picked_both : {table'' : List ℕ} → table'' ≡ table' ++ picked popped left (l + 1) end → table'' ≡ table ++ picked chosen left l end
+    picked_both z =
+        z ∙ ap₂ (λ (t c : List ℕ). t ++ picked c left (l + 1) end) q still
+        ∙ append_assoc table (picked one (left - 1) (l + 1) end) (picked chosen left (l + 1) end)
+        ∙ ap (λ (t : List ℕ). table ++ t) both
 
--- a clause whose literals are all chosen
-pub picked_here : {l end left : ℕ} {chosen : List ℕ} {n : ℕ} {table : List ℕ} {at : ℕ} {table' : List ℕ} {r : ℕ} → left ≡ 0
-    → Written table at (if_apart (take n chosen)) table' r → Picked l end left chosen n table at chosen table' r
-picked_here {l} {end} {left} {chosen} {n} z w = record {
-  kept = refl;
-  cells = written_as (picked (take n chosen) left l end) w (picked_none (take n chosen) l end ∙ ap (λ (k : ℕ). picked (take n chosen) k l end) (sym z));
-}
+module _ {l end left : ℕ} {chosen table : List ℕ} (p : Picking l end left chosen table) where
+  -- a clause whose literals are all chosen
+  here : left ≡ 0 → if_apart chosen ≡ picked chosen left l end
+  here z = picked_none chosen l end ∙ ap (λ (k : ℕ). picked chosen k l end) (sym z)
 
-pub here_room : {l end left : ℕ} {chosen : List ℕ} {n : ℕ} {table : List ℕ} {at : ℕ} → left ≡ 0 → Picking l end left chosen n table at
-    → at + length (if_apart (take n chosen)) ≤ length table
-here_room {l} {end} {left} {chosen} {n} z p =
-    omega (arith, p.room, ap length (picked_none (take n chosen) l end), ap (λ (k : ℕ). length (picked (take n chosen) k l end)) z)
+  pub here_room : left ≡ 0 → length table + length (if_apart chosen) ≤ table_cells
+  here_room z = omega (arith, p.room, ap length (here z))
 
--- no literal is left
-pub picked_out : {l end left : ℕ} {chosen : List ℕ} {n : ℕ} {table : List ℕ} {at : ℕ} → Picking l end left chosen n table at → 1 ≤ left → l ≡ end
-    → Picked l end left chosen n table at chosen table at
-picked_out {l} {end} {left} {chosen} {n} {table} {at} p some e =
-    let z = picked_end (take n chosen) left l end some e in
-    record { kept = refl; cells = written_as (picked (take n chosen) left l end) (written_none table at (omega (arith, p.room))) (sym z) }
+  pub picked_here : {table' : List ℕ} → left ≡ 0 → table' ≡ table ++ if_apart chosen → table' ≡ table ++ picked chosen left l end
+  picked_here z w = w ∙ ap (λ (t : List ℕ). table ++ t) (here z)
+
+  -- no literal is left
+  pub picked_out : 1 ≤ left → l ≡ end → table ≡ table ++ picked chosen left l end
+  picked_out some e = sym (append-nil table) ∙ ap (λ (t : List ℕ). table ++ t) (sym (picked_end chosen left l end some e))
 
 -- ---- length by length
 
@@ -227,40 +178,48 @@ gathered_within v k h =
       length-append (records_of (filter apart fore)) (records_of (filter apart rest)),
     )
 
-pub gathering_start : (v : ℕ) (table : List ℕ) → length (records_of (clauses v)) ≤ length table → Gathering v 1 table table 0
-gathering_start v table h = record {
-  some = omega arith;
-  most = omega arith;
-  cells = written_as (gathered v 0) (written_none table 0 (omega arith)) (sym (gathered_none v));
-  room = h;
-}
+-- how much there is of up to three variables
+records_known : (v : ℕ) → v ≤ 3 → length (records_of (clauses v)) ≤ table_cells
+unfolding combinations of_sizes upward literals apart filter clauses record_of records_of
+records_known zero h = omega arith
+records_known (suc zero) h = omega arith
+records_known (suc (suc zero)) h = omega arith
+records_known (suc (suc (suc zero))) h = omega arith
+records_known (suc (suc (suc (suc v)))) h = absurd (omega arith)
 
-module _ {v k : ℕ} {first table : List ℕ} {at : ℕ} (g : Gathering v k first table at) (h : k ≤ v) where
+pub gathering_start : (v : ℕ) → Gathering v 1 [] []
+gathering_start v = record { none = refl; cells = sym (gathered_none v) }
+
+module _ {v k : ℕ} {chosen table : List ℕ} (g : Gathering v k chosen table) (some : 1 ≤ k) (h : k ≤ v) where
   step_long : length (gathered v (k - 1)) + length (picked [] k 0 (2 * v)) ≡ length (gathered v k)
-  step_long = sym (length-append (gathered v (k - 1)) (picked [] k 0 (2 * v))) ∙ ap length (gathered_more v k g.some)
+  step_long = sym (length-append (gathered v (k - 1)) (picked [] k 0 (2 * v))) ∙ ap length (gathered_more v k some)
 
-  fits : 0 + length (gathered v (k - 1)) ≤ length first
-  fits = omega (arith, step_long, gathered_within v k h, g.room)
-
-  pub gathering_picks : (chosen : List ℕ) → v ≤ length chosen → length chosen ≤ 4294967295 → Picking 0 (2 * v) k chosen 0 table at
-  gathering_picks chosen l s = record {
+  pub gathering_picks : v ≤ 3 → Picking 0 (2 * v) k chosen table
+  gathering_picks l = record {
     from = omega arith;
-    literals = omega arith;
-    some = s;
-    room = omega (arith, step_long, gathered_within v k h, g.room, written_end g.cells fits, written_long g.cells);
+    literals = omega (arith, ap length g.none);
+    room = omega (
+      arith,
+      ap (λ (c : List ℕ). length (picked c k 0 (2 * v))) g.none,
+      ap length g.cells,
+      step_long,
+      gathered_within v k h,
+      records_known v l,
+    );
   }
 
-  pub gathering_more : {chosen chosen' table' : List ℕ} {r : ℕ} → Picked 0 (2 * v) k chosen 0 table at chosen' table' r → Gathering v (k + 1) first table' r
-  gathering_more {chosen} {chosen'} {table'} {r} q =
+  pub gathering_more : {chosen' table' : List ℕ} → chosen' ≡ chosen → table' ≡ table ++ picked chosen k 0 (2 * v) → Gathering v (k + 1) chosen' table'
+  gathering_more {chosen'} {table'} c q =
       let e : k ≡ k + 1 - 1 = omega arith in
       record {
-        some = omega arith;
-        most = omega arith;
-        cells = written_as (gathered v (k + 1 - 1)) (joined g.cells q.cells) (gathered_more v k g.some ∙ ap (gathered v) e);
-        room = g.room;
+        none = c ∙ g.none;
+        cells =
+            q ∙ ap₂ (λ (t p : List ℕ). t ++ picked p k 0 (2 * v)) g.cells g.none
+            ∙ gathered_more v k some
+            ∙ ap (gathered v) e;
       }
 
-pub gathering_end : {v k : ℕ} {first table : List ℕ} {at : ℕ} → Gathering v k first table at → v < k → Written first 0 (records_of (clauses v)) table at
+pub gathering_end : {v k : ℕ} {chosen table : List ℕ} → Gathering v k chosen table → k ≡ v + 1 → table ≡ records_of (clauses v)
 gathering_end {v} {k} g h =
-    let e : k - 1 ≡ v = omega (arith, g.most) in
-    written_as (records_of (clauses v)) g.cells (ap (gathered v) e ∙ gathered-all v)
+    let e : k - 1 ≡ v = omega arith in
+    g.cells ∙ ap (gathered v) e ∙ gathered-all v

@@ -1,27 +1,28 @@
 -- The sets, as the code goes through them: the lines of each are written, and the score is kept.
-use Rattle.std.specs.Prelude.{◌≡◌, ℕ, zero, suc, ◌+◌, ◌-◌, ◌≤◌, ◌<◌}
+use Rattle.std.specs.Prelude.{◌≡◌, ◌≢◌, ℕ, zero, suc, ◌+◌, ◌-◌, ◌≤◌, ◌<◌}
 use Rattle.std.proofs.Math.Path.{refl, ap, sym}
-use Rattle.std.proofs.Common.{ap₂, ◌∙◌, subst, arith, add-zero, zero-add, take-take, drop-drop, get_or-drop, length-take-le}
+use Rattle.std.proofs.Common.{ap₂, ◌∙◌, subst, arith, add-zero, zero-add}
 use mathlib.Core.List.Memᴰ.{head as here}
 use mathlib.Core.List.{List, [], ◌∷◌, ◌++◌, map, append_assoc, append-nil}
-use Rattle.std.proofs.Math.ListN.{length, get_or, take, drop, length-append, length-drop}
-use Rattle.std.proofs.Math.Seq.{take_at, drop_at}
+use Rattle.std.proofs.Math.ListN.{length, get_or, take, drop, length-append, length-drop, length-take}
+use Rattle.std.proofs.Math.Seq.{take_at, drop_at, take_all}
+use Rattle.arrayvec.specs.ArrayVec.{ArrayVec}
 use Rattle.lawbase.specs.Basics.{Every, shrink}
 use Rattle.text.specs.Bytes.{bytes}
 use Rattle.text.specs.Kinds.{cell_of}
 use Rattle.text.specs.Answers.{verdict, numbered}
 use Rattle.text.specs.PrintBound.{verdict-length, numbered-length}
-use Rattle.text.specs.WriteLaws.{Written, joined, written_as, written_none, written_long, written_in}
+use Rattle.text.specs.Prints.{Prints, prints_none, prints_more, prints_as}
 use Rattle.smallbooks.specs.declared.Found.{Found}
 use Rattle.smallbooks.specs.declared.Score.{Score}
-use Rattle.smallbooks.specs.Tell.{Told, told}
+use Rattle.smallbooks.specs.declared.Walk.{Walk}
 use Rattle.smallbooks.specs.Choose.{combinations, of_sizes}
 use Rattle.smallbooks.proofs.Choose.{sizes_split, sizes_last}
 use Rattle.smallbooks.specs.Books.{record_of, records_of, solve_record, fresh, printed, all_printed}
 use Rattle.smallbooks.specs.Score.{one_more, scores}
+use Rattle.smallbooks.proofs.Pick.{record_length}
 use Rattle.smallbooks.proofs.ScoreLaws.{scores-append, scores-count}
-use Rattle.smallbooks.proofs.Place.{written_end, written_before, written_through, record_length}
-use Rattle.smallbooks.specs.Tell.{longest, conflicts_of, Tells, runs, run_of, Front, clause_at, next_at, Chose, Choosing, Solved, Listing, Telling, AllTold}
+use Rattle.smallbooks.specs.Tell.{longest, conflicts_of, Tells, runs, run_of, Choosing, Chose, Listing, Telling}
 
 pub printed-length : (f : Found) → f.conflicts ≤ 4294967295 → length (printed f) ≤ longest
 unfolding printed
@@ -37,40 +38,44 @@ unfolding all_printed
 all_append [] gs = refl
 all_append (f ∷ fs) gs = ap (λ (l : List ℕ). printed f ++ l) (all_append fs gs) ∙ sym (append_assoc (printed f) (all_printed fs) (all_printed gs))
 
--- ---- told: the text from t's place on, and the score
+-- ---- told
 
-pub tells_none : (text : List ℕ) (t : Told) → t.at ≤ length text → Tells text t [] text t
+pub tells_none : (w : Walk) → Tells w w []
 unfolding all_printed scores
-tells_none text t h = record { lines = written_none text t.at h; score = refl; short = omega arith }
+tells_none w = record { script = refl; taken = refl; lines = prints_none w.printer.now; score = refl; short = omega arith }
 
-pub tells_one : {text : List ℕ} {t : Told} {text' : List ℕ} {at : ℕ} {s : Score} {f : Found} → length (printed f) ≤ longest
-    → Written text t.at (printed f) text' at → s ≡ one_more t.score f.conflicts → Tells text t (f ∷ []) text' (told at s)
+pub tells_one : {old new : Walk} {f : Found} → new.script.items ≡ old.script.items → new.taken ≡ old.taken → Prints old.printer.now new.printer.now (printed f)
+    → length (printed f) ≤ longest → new.score ≡ one_more old.score f.conflicts → Tells old new (f ∷ [])
 unfolding all_printed scores
-tells_one {text} {t} {text'} {at} {s} {f} h w e = record {
-  lines = written_as (printed f ++ []) w (sym (append-nil (printed f)));
+tells_one {f = f} s n p h e = record {
+  script = s;
+  taken = n;
+  lines = prints_as (printed f ++ []) (sym (append-nil (printed f))) p;
   score = e;
   short = omega (arith, ap length (append-nil (printed f)), h);
 }
 
-pub tells_join : {text : List ℕ} {t : Told} {fs : List Found} {text' : List ℕ} {t' : Told} {gs : List Found} {text'' : List ℕ} {r : Told}
-    → Tells text t fs text' t' → Tells text' t' gs text'' r → Tells text t (fs ++ gs) text'' r
-tells_join {text} {t} {fs} {text'} {t'} {gs} {text''} {r} p q = record {
-  lines = written_as (all_printed (fs ++ gs)) (joined p.lines q.lines) (sym (all_append fs gs));
+pub tells_join : {a b c : Walk} {fs gs : List Found} → Tells a b fs → Tells b c gs → Tells a c (fs ++ gs)
+tells_join {a} {b} {c} {fs} {gs} p q = record {
+  script = q.script ∙ p.script;
+  taken = q.taken ∙ p.taken;
+  lines = prints_as (all_printed (fs ++ gs)) (sym (all_append fs gs)) (prints_more p.lines q.lines);
   score =
-      q.score ∙ ap (λ (s : Score). scores s (conflicts_of gs)) p.score ∙ sym (scores-append t.score (conflicts_of fs) (conflicts_of gs))
-      ∙ ap (scores t.score) (sym (conflicts_append fs gs));
+      q.score ∙ ap (λ (s : Score). scores s (conflicts_of gs)) p.score ∙ sym (scores-append a.score (conflicts_of fs) (conflicts_of gs))
+      ∙ ap (scores a.score) (sym (conflicts_append fs gs));
   short = omega (arith, p.short, q.short, ap length (all_append fs gs), length-append (all_printed fs) (all_printed gs), length-append fs gs);
 }
 
-pub tells_as : {text : List ℕ} {t : Told} {fs : List Found} {text' : List ℕ} {r : Told} (gs : List Found) → Tells text t fs text' r → fs ≡ gs → Tells text t gs text' r
-tells_as {text} {t} {fs} {text'} {r} gs p e = subst (λ (l : List Found). Tells text t l text' r) e p
+pub tells_as : {old new : Walk} {fs : List Found} (gs : List Found) → Tells old new fs → fs ≡ gs → Tells old new gs
+tells_as {old} {new} gs p e = subst (Tells old new) e p
 
 map_long : (fs : List Found) → length (conflicts_of fs) ≡ length fs
 map_long [] = refl
 map_long (f ∷ fs) = ap suc (map_long fs)
 
-pub tells_count : {text : List ℕ} {t : Told} {fs : List Found} {text' : List ℕ} {r : Told} → Tells text t fs text' r → r.score.count ≡ t.score.count + length fs
-tells_count {text} {t} {fs} p = ap (λ (s : Score). s.count) p.score ∙ scores-count t.score (conflicts_of fs) ∙ ap (λ (k : ℕ). t.score.count + k) (map_long fs)
+pub tells_count : {old new : Walk} {fs : List Found} → Tells old new fs → new.score.count ≡ old.score.count + length fs
+tells_count {old} {new} {fs} p =
+    ap (λ (s : Score). s.count) p.score ∙ scores-count old.score (conflicts_of fs) ∙ ap (λ (k : ℕ). old.score.count + k) (map_long fs)
 
 -- ---- the runs of sets whose first n clauses stand in p already
 
@@ -117,40 +122,73 @@ runs_more p n (suc k) c cs h =
     ∙ ap (λ (l : List Found). l ++ runs p n (combinations (suc k) cs)) (sym (runs_with p n c (combinations k cs)))
     ∙ sym (runs_append p n (map (λ s. c ∷ s) (combinations k cs)) (combinations (suc k) cs))
 
--- ---- the table of clauses: a row of records
+-- ---- a set's solve: its record is written behind the clauses', and taken away again
 
-module _ (table : List ℕ) (from : ℕ) (h : from < length table) where
-  front_of : (c : List ℕ) (cs : List (List ℕ)) → drop from table ≡ records_of (c ∷ cs) → Front table from (c ∷ cs)
-  unfolding records_of record_of clause_at
-  front_of c cs e =
-      let n : get_or table (from + 1) 0 ≡ length c = sym (get_or-drop from table 1 0) ∙ ap (λ (l : List ℕ). get_or l 1 0) e in
-      let d : drop (from + 2) table ≡ c ++ records_of cs = sym (drop-drop 2 from table) ∙ ap (drop 2) e in
-      let m : next_at table from - (from + 2) ≡ length c = omega (arith, n) in
-      let k = ap (λ (i : ℕ). take i (drop (from + 2) table)) m ∙ ap (take (length c)) d in
-      let l : clause_at table from ≡ c = k ∙ take_at c (records_of cs) (length c) refl in
-      record {
-        rest = cs;
-        same = ap (λ (x : List ℕ). x ∷ cs) (sym l);
-        listed =
-            ap (λ (k : ℕ). drop (from + 2 + k) table) n ∙ sym (drop-drop (length c) (from + 2) table) ∙ ap (drop (length c)) d ∙ drop_at c (records_of cs) (length c) refl;
-        inside = omega (arith, n, ap length d, length-append c (records_of cs), length-drop (from + 2) table, ap length e, length-drop from table);
-      }
+pub solve_tells : {old new : Walk} {script : ArrayVec ℕ} {used : ℕ} {f : Found} → script.items ≡ old.script.items ++ solve_record
+    → used ≡ length old.script.items → new.script.items ≡ take used script.items → new.taken ≡ old.taken → f ≡ fresh old.taken script.items
+    → Prints old.printer.now new.printer.now (printed f) → length (printed f) ≤ longest → new.score ≡ one_more old.score f.conflicts
+    → Tells old new (fresh old.taken (old.script.items ++ solve_record) ∷ [])
+solve_tells {old} {new} {f = f} e u t n a p h z =
+    tells_as (fresh old.taken (old.script.items ++ solve_record) ∷ [])
+    (tells_one (t ∙ ap₂ (λ (i : ℕ) (l : List ℕ). take i l) u e ∙ take_at old.script.items solve_record (length old.script.items) refl) n p h z)
+    (ap (λ (g : Found). g ∷ []) (a ∙ ap (fresh old.taken) e))
 
-  nothing_left : drop from table ≡ [] → ⊥
-  nothing_left e = omega (arith, ap length e, length-drop from table)
+-- ---- the clauses listed: a row of records
 
-  pub front : (rules : List (List ℕ)) → drop from table ≡ records_of rules → Front table from rules
+-- what stands behind the first two cells
+abbrev pub behind : List ℕ → List ℕ
+behind listed = take (length listed - 2) (drop 2 listed)
+
+-- the first rule is a clause, and the others are listed behind it
+pub record Front (clause tail : List ℕ) (rules : List (List ℕ)) : Type 0 where
+  pub others : List (List ℕ)
+  pub same : rules ≡ clause ∷ others
+  pub listed : tail ≡ records_of others
+
+module _ (c : List ℕ) (cs : List (List ℕ)) {listed : List ℕ} (e : listed ≡ records_of (c ∷ cs)) where
+  first_length : get_or listed 1 0 ≡ length c
+  unfolding records_of record_of
+  first_length = ap (λ (l : List ℕ). get_or l 1 0) e
+
+  first_behind : behind listed ≡ c ++ records_of cs
+  unfolding records_of record_of
+  first_behind = take_all (length listed - 2) (drop 2 listed) (omega (arith, length-drop 2 listed)) ∙ ap (drop 2) e
+
+  first_inside : get_or listed 1 0 ≤ length (behind listed)
+  first_inside = omega (arith, first_length, ap length first_behind, length-append c (records_of cs))
+
+  first_front : {clause tail : List ℕ} → clause ≡ take (get_or listed 1 0) (behind listed) → tail ≡ drop (get_or listed 1 0) (behind listed)
+      → Front clause tail (c ∷ cs)
+  first_front f t = record {
+    others = cs;
+    same =
+        ap (λ (x : List ℕ). x ∷ cs)
+        (sym (f ∙ ap₂ (λ (i : ℕ) (l : List ℕ). take i l) first_length first_behind ∙ take_at c (records_of cs) (length c) refl));
+    listed = t ∙ ap₂ (λ (i : ℕ) (l : List ℕ). drop i l) first_length first_behind ∙ drop_at c (records_of cs) (length c) refl;
+  }
+
+module _ {listed : List ℕ} (h : 2 ≤ length listed) where
+  pub clause_inside : (rules : List (List ℕ)) → listed ≡ records_of rules → get_or listed 1 0 ≤ length (behind listed)
   unfolding records_of
-  front [] e = absurd (nothing_left e)
-  front (c ∷ cs) e = front_of c cs e
+  clause_inside [] e = absurd (omega (arith, ap length e))
+  clause_inside (c ∷ cs) e = first_inside c cs e
 
--- behind the last record no rule is left
-pub none_listed : (table : List ℕ) (from : ℕ) (rules : List (List ℕ)) → from ≡ length table → drop from table ≡ records_of rules → rules ≡ []
+  module _ {clause tail : List ℕ} (f : clause ≡ take (get_or listed 1 0) (behind listed)) (t : tail ≡ drop (get_or listed 1 0) (behind listed)) where
+    pub front : (rules : List (List ℕ)) → listed ≡ records_of rules → Front clause tail rules
+    unfolding records_of
+    front [] e = absurd (omega (arith, ap length e))
+    front (c ∷ cs) e = first_front c cs e f t
+
+pub shorter : (listed : List ℕ) {tail : List ℕ} → 2 ≤ length listed → tail ≡ drop (get_or listed 1 0) (behind listed) → length tail < length listed
+shorter listed h t = omega (arith, ap length t, length-drop (get_or listed 1 0) (behind listed), length-take (length listed - 2) (drop 2 listed), length-drop 2 listed)
+
+-- of fewer cells than a record's none is listed
+pub none_listed : (listed : List ℕ) (rules : List (List ℕ)) → length listed < 2 → listed ≡ records_of rules → rules ≡ []
 unfolding records_of record_of
-none_listed table from [] h e = refl
-none_listed table from (c ∷ cs) h e = absurd (omega (arith, ap length e, length-drop from table))
+none_listed listed [] h e = refl
+none_listed listed (c ∷ cs) h e = absurd (omega (arith, ap length e))
 
--- ---- going through the sets of the n clauses in the script and `left` more of those listed from a cell on
+-- ---- going through the sets of the clauses in the script and `left` more of those listed
 
 sets_one : (k : ℕ) (rules : List (List ℕ)) → k ≡ 0 → length (combinations k rules) ≡ 1
 unfolding combinations
@@ -172,148 +210,110 @@ sets_more (suc k) c cs h =
     with_long c [] = refl
     with_long c (s ∷ ss) = ap suc (with_long c ss)
 
-module _ {table : List ℕ} {from left : ℕ} {script : List ℕ} {used n : ℕ} {text : List ℕ} {t : Told} (p : Choosing table from left script used n text t) where
+module _ {w : Walk} {listed : List ℕ} {left : ℕ} (p : Choosing w listed left) where
   -- a set whose clauses are all chosen
-  pub room_solve : left ≡ 0 → (used + 3 ≤ length script) × (n ≤ 3) × (t.score.count < 4294967295)
-  room_solve z =
-      let m = p.room in
-      (omega (arith, m.cells), omega (arith, m.clauses), omega (arith, m.sets, sets_one left p.rules z))
+  pub room_solve : left ≡ 0 → (length w.script.items + 3 ≤ 24) × (w.taken ≤ 3) × (w.score.count < 4294967295)
+  room_solve z = (omega (arith, p.cells), omega (arith, p.clauses), omega (arith, p.sets, sets_one left p.rules z))
 
-  pub chose_here : {script' text' : List ℕ} {r : Told} → left ≡ 0 → take used script' ≡ take used script
-      → Tells text t (fresh n (take used script ++ solve_record) ∷ []) text' r → Chose table from left script used n text t script' text' r
-  chose_here {script'} {text'} {r} z k q = record {
-    kept = k;
+  pub chose_here : {w' : Walk} → left ≡ 0 → Tells w w' (fresh w.taken (w.script.items ++ solve_record) ∷ []) → Chose w w' listed left
+  chose_here z q = record {
     tells = λ rules e.
-        tells_as (runs (take used script) n (combinations left rules)) q
-        (runs_none (take used script) n rules ∙ ap (λ (j : ℕ). runs (take used script) n (combinations j rules)) (sym z));
+        tells_as (runs w.script.items w.taken (combinations left rules)) q
+        (runs_none w.script.items w.taken rules ∙ ap (λ (j : ℕ). runs w.script.items w.taken (combinations j rules)) (sym z));
   }
 
   -- no clause is left
-  pub chose_out : 1 ≤ left → from ≡ length table → Chose table from left script used n text t script text t
+  pub chose_out : left ≢ 0 → length listed < 2 → Chose w w listed left
   chose_out some h = record {
-    kept = refl;
     tells = λ rules e.
-        tells_as (runs (take used script) n (combinations left rules)) (tells_none text t p.room.place)
-        (sym (runs_end (take used script) n left rules some (none_listed table from rules h e)));
+        tells_as (runs w.script.items w.taken (combinations left rules)) (tells_none w)
+        (sym (runs_end w.script.items w.taken left rules (omega (arith, some)) (none_listed listed rules h e)));
   }
 
-  module _ (some : 1 ≤ left) (h : from < length table) where
-    abbrev here_front : Front table from p.rules
-    here_front = front table from h p.rules p.room.listed
+  module _ (some : left ≢ 0) (h : 2 ≤ length listed) {clause tail : List ℕ} (f : clause ≡ take (get_or listed 1 0) (behind listed))
+      (t : tail ≡ drop (get_or listed 1 0) (behind listed)) where
+    abbrev here_front : Front clause tail p.rules
+    here_front = front h f t p.rules p.same
 
-    clause_small : length (clause_at table from) ≤ 3
-    clause_small = subst (Every (λ c. length c ≤ 3)) here_front.same p.room.small (clause_at table from) (here refl)
+    first_short : length clause ≤ 3
+    first_short = subst (Every (λ c. length c ≤ 3)) here_front.same p.small clause (here refl)
 
-    rest_small : Every (λ c. length c ≤ 3) here_front.rest
-    rest_small = shrink (subst (Every (λ c. length c ≤ 3)) here_front.same p.room.small)
+    pub clause_fits : (length w.script.items + (2 + length clause) ≤ 24) × (length clause ≤ 4294967295)
+    clause_fits = (omega (arith, first_short, p.cells), omega (arith, first_short))
 
-    pub next_inside : next_at table from ≤ length table
-    next_inside = here_front.inside
+    rest_small : Every (λ c. length c ≤ 3) here_front.others
+    rest_small = shrink (subst (Every (λ c. length c ≤ 3)) here_front.same p.small)
 
-    pub record_room : used + (2 + length (clause_at table from)) ≤ length script
-    record_room = omega (arith, clause_small, p.room.cells)
+    count_both : length (combinations (left - 1) here_front.others) + length (combinations left here_front.others) ≡ length (combinations left p.rules)
+    count_both =
+        sets_more left clause here_front.others (omega (arith, some)) ∙ ap (λ (l : List (List ℕ)). length (combinations left l)) (sym here_front.same)
 
-    pub clause_short : length (clause_at table from) ≤ 4294967295
-    clause_short = omega (arith, clause_small)
+    -- the clause is taken
+    module _ {script : ArrayVec ℕ} (e : script.items ≡ w.script.items ++ record_of clause) where
+      abbrev with_it : Walk
+      with_it = record { script = script; taken = w.taken + 1; score = w.score; printer = w.printer }
 
-    count_both : length (combinations (left - 1) here_front.rest) + length (combinations left here_front.rest) ≡ length (combinations left p.rules)
-    count_both = sets_more left (clause_at table from) here_front.rest some ∙ ap (λ (l : List (List ℕ)). length (combinations left l)) (sym here_front.same)
-
-    module _ {script' : List ℕ} {end : ℕ} (w : Written script used (record_of (clause_at table from)) script' end) where
-      fits : used + length (record_of (clause_at table from)) ≤ length script
-      fits = omega (arith, record_room, record_length (clause_at table from))
-
-      end_is : end ≡ used + (2 + length (clause_at table from))
-      end_is = omega (arith, written_end w fits, record_length (clause_at table from))
-
-      pub choosing_with : Choosing table (next_at table from) (left - 1) script' end (n + 1) text t
+      pub choosing_with : Choosing with_it tail (left - 1)
       choosing_with = record {
-        rules = here_front.rest;
-        room = record {
-          listed = here_front.listed;
-          inside = here_front.inside;
-          small = rest_small;
-          cells = omega (arith, p.room.cells, end_is, clause_small, written_long w);
-          clauses = omega (arith, p.room.clauses);
-          place = p.room.place;
-          sets = omega (arith, p.room.sets, count_both);
-        };
+        rules = here_front.others;
+        same = here_front.listed;
+        small = rest_small;
+        cells = omega (arith, p.cells, first_short, ap length e, length-append w.script.items (record_of clause), record_length clause);
+        clauses = omega (arith, p.clauses);
+        sets = omega (arith, p.sets, count_both);
       }
 
-      module _ {script'' text'' : List ℕ} {u : Told} (q : Chose table (next_at table from) (left - 1) script' end (n + 1) text t script'' text'' u)
-          (long : length script'' ≡ length script') where
-        still : take used script'' ≡ take used script
-        still =
-            sym (take-take used end script'' (omega (arith, end_is))) ∙ ap (take used) (q.kept ∙ written_through w fits)
-            ∙ take_at (take used script) (record_of (clause_at table from)) used (length-take-le used script (omega (arith, p.room.cells)))
+      -- and left out again
+      module _ {told : Walk} (q : Chose with_it told tail (left - 1)) {script' : ArrayVec ℕ} {used : ℕ} (u : used ≡ length w.script.items)
+          (i : script'.items ≡ take used told.script.items) where
+        abbrev back : Walk
+        back = record { script = script'; taken = told.taken - 1; score = told.score; printer = told.printer }
 
-        first_told : Tells text t (runs (take end script') (n + 1) (combinations (left - 1) here_front.rest)) text'' u
-        first_told = q.tells here_front.rest here_front.listed
+        tells_back : {fs : List Found} → Tells with_it told fs → Tells w back fs
+        tells_back r = record {
+          script = i ∙ ap₂ (λ (i : ℕ) (l : List ℕ). take i l) u (r.script ∙ e) ∙ take_at w.script.items (record_of clause) (length w.script.items) refl;
+          taken = omega (arith, r.taken);
+          lines = r.lines;
+          score = r.score;
+          short = r.short;
+        }
 
-        pub choosing_without : Choosing table (next_at table from) left script'' used n text'' u
+        first_told : Tells w back (runs script.items (w.taken + 1) (combinations (left - 1) here_front.others))
+        first_told = tells_back (q.tells here_front.others here_front.listed)
+
+        pub one_more_taken : 1 ≤ told.taken
+        one_more_taken = omega (arith, (q.tells here_front.others here_front.listed).taken)
+
+        pub choosing_without : Choosing back tail left
         choosing_without = record {
-          rules = here_front.rest;
-          room = record {
-            listed = here_front.listed;
-            inside = here_front.inside;
-            small = rest_small;
-            cells = omega (arith, p.room.cells, long, written_long w);
-            clauses = p.room.clauses;
-            place = written_in first_told.lines;
-            sets = omega (arith, p.room.sets, count_both, tells_count first_told, runs_long (take end script') (n + 1) (combinations (left - 1) here_front.rest));
-          };
+          rules = here_front.others;
+          same = here_front.listed;
+          small = rest_small;
+          cells = omega (arith, p.cells, ap length first_told.script);
+          clauses = omega (arith, p.clauses, first_told.taken);
+          sets = omega (arith, p.sets, count_both, tells_count first_told, runs_long script.items (w.taken + 1) (combinations (left - 1) here_front.others));
         }
 
-        pub chose_both : {script''' text''' : List ℕ} {r : Told} → Chose table (next_at table from) left script'' used n text'' u script''' text''' r
-            → Chose table from left script used n text t script''' text''' r
-        chose_both {script'''} {text'''} {r} z = record {
-          kept = z.kept ∙ still;
-          tells = λ rules e.
-              let f = front table from h rules e in
-              let k = combinations left f.rest in
-              let one = q.tells f.rest f.listed in
-              let two = tells_as (runs (take used script) n k) (z.tells f.rest f.listed) (ap (λ (l : List ℕ). runs l n k) still) in
-              tells_as (runs (take used script) n (combinations left rules)) (tells_join one two)
-              (ap (λ (l : List ℕ). runs l (n + 1) (combinations (left - 1) f.rest) ++ runs (take used script) n k) (written_through w fits)
-              ∙ runs_more (take used script) n left (clause_at table from) f.rest some
-              ∙ ap (λ (l : List (List ℕ)). runs (take used script) n (combinations left l)) (sym f.same));
+        pub chose_both : {new : Walk} → Chose back new tail left → Chose w new listed left
+        chose_both z = record {
+          tells = λ rules l.
+              let g = front h f t rules l in
+              let one_less = combinations (left - 1) g.others in
+              let as_many = combinations left g.others in
+              let one = tells_back (q.tells g.others g.listed) in
+              tells_as (runs w.script.items w.taken (combinations left rules)) (tells_join one (z.tells g.others g.listed))
+              (ap₂ (λ (s : List ℕ) (fs : List Found). runs s (w.taken + 1) one_less ++ fs) e (ap₂ (λ (s : List ℕ) (n : ℕ). runs s n as_many) one.script one.taken)
+              ∙ runs_more w.script.items w.taken left clause g.others (omega (arith, some))
+              ∙ ap (λ (r : List (List ℕ)). runs w.script.items w.taken (combinations left r)) (sym g.same));
         }
-
--- ---- a set whose script lacks its solve
-
-solve-length : length solve_record ≡ 3
-unfolding solve_record
-solve-length = refl
-
-module _ {script : List ℕ} {used : ℕ} {script' : List ℕ} {end : ℕ} (w : Written script used solve_record script' end) (h : used + 3 ≤ length script) where
-  solve_fits : used + length solve_record ≤ length script
-  solve_fits = omega (arith, solve-length)
-
-  pub solve_end : end ≤ length script'
-  solve_end = written_in w
-
-  pub solved-all : {n : ℕ} {text : List ℕ} {t : Told} {text' : List ℕ} {at : ℕ} {s : Score} {f : Found} → f ≡ fresh n (take end script') → length (printed f) ≤ longest
-      → Written text t.at (printed f) text' at → s ≡ one_more t.score f.conflicts
-      → Solved script used n text t script' text' (told at s)
-  solved-all {n} {text} {t} {text'} {at} {s} {f} e c p q = record {
-    kept = written_before w solve_fits;
-    tells = tells_as (fresh n (take used script ++ solve_record) ∷ []) (tells_one c p q)
-        (ap (λ (g : Found). g ∷ []) (e ∙ ap (fresh n) (written_through w solve_fits)));
-  }
 
 -- ---- size by size
 
-pub telling_start : {table script text : List ℕ} {t : Told} → Listing table script text t → Telling 0 table script text t script text t
+pub telling_start : (w : Walk) (table : List ℕ) → Telling 0 w w table
 unfolding of_sizes runs
-telling_start {table} {script} {text} {t} l = record {
-  listing = l;
-  most = omega arith;
-  long = refl;
-  kept = refl;
-  tells = λ rules e. tells_none text t l.place;
-}
+telling_start w table = record { tells = λ rules e. tells_none w }
 
-module _ {k : ℕ} {table script₀ text₀ : List ℕ} {t₀ : Told} {script text : List ℕ} {t : Told} (p : Telling k table script₀ text₀ t₀ script text t) (h : k ≤ 3) where
+module _ {k : ℕ} {old new : Walk} {table : List ℕ} (l : Listing old table) (p : Telling k old new table) (h : k ≤ 3) where
   sizes_next : (rules : List (List ℕ)) → of_sizes 0 (k + 1) rules ≡ of_sizes 0 k rules ++ combinations k rules
   sizes_next rules = sizes_last 0 k rules ∙ ap (λ (j : ℕ). of_sizes 0 k rules ++ combinations j rules) (zero-add k)
 
@@ -329,42 +329,24 @@ module _ {k : ℕ} {table script₀ text₀ : List ℕ} {t₀ : Told} {script te
         ap (λ (j : ℕ). length (of_sizes 0 j rules)) e,
       )
 
-  pub telling_choosing : Choosing table 0 k script 6 0 text t
+  pub telling_choosing : Choosing new table k
   telling_choosing =
-      let l = p.listing in
-      let q = p.tells l.rules l.listed in
+      let q = p.tells l.rules l.same in
       record {
         rules = l.rules;
-        room = record {
-          listed = l.listed;
-          inside = omega arith;
-          small = l.small;
-          cells = omega (arith, l.cells, p.long);
-          clauses = omega arith;
-          place = written_in q.lines;
-          sets = omega (arith, l.sets, tells_count q, runs_long (take 6 script₀) 0 (of_sizes 0 k l.rules), within l.rules);
-        };
+        same = l.same;
+        small = l.small;
+        cells = omega (arith, l.cells, ap length q.script);
+        clauses = omega (arith, l.none, q.taken);
+        sets = omega (arith, l.sets, tells_count q, runs_long old.script.items old.taken (of_sizes 0 k l.rules), within l.rules);
       }
 
-  pub telling_more : {script' text' : List ℕ} {r : Told} → Chose table 0 k script 6 0 text t script' text' r → length script' ≡ length script
-      → Telling (k + 1) table script₀ text₀ t₀ script' text' r
-  telling_more {script'} {text'} {r} q e = record {
-    listing = p.listing;
-    most = omega arith;
-    long = e ∙ p.long;
-    kept = q.kept ∙ p.kept;
-    tells = λ rules f.
-        tells_as (runs (take 6 script₀) 0 (of_sizes 0 (k + 1) rules))
-        (tells_join (p.tells rules f) (tells_as (runs (take 6 script₀) 0 (combinations k rules)) (q.tells rules f) (ap (λ (l : List ℕ). runs l 0 (combinations k rules)) p.kept)))
-        (sym (runs_append (take 6 script₀) 0 (of_sizes 0 k rules) (combinations k rules)) ∙ ap (runs (take 6 script₀) 0) (sym (sizes_next rules)));
+  pub telling_more : {next : Walk} → Chose new next table k → Telling (k + 1) old next table
+  telling_more q = record {
+    tells = λ rules e.
+        let one = p.tells rules e in
+        tells_as (runs old.script.items old.taken (of_sizes 0 (k + 1) rules)) (tells_join one (q.tells rules e))
+        (ap (λ (fs : List Found). runs old.script.items old.taken (of_sizes 0 k rules) ++ fs) (ap₂ (λ (s : List ℕ) (n : ℕ). runs s n (combinations k rules)) one.script one.taken)
+        ∙ sym (runs_append old.script.items old.taken (of_sizes 0 k rules) (combinations k rules))
+        ∙ ap (runs old.script.items old.taken) (sym (sizes_next rules)));
   }
-
-pub telling_end : {k : ℕ} {table script₀ text₀ : List ℕ} {t₀ : Told} {script text : List ℕ} {t : Told} → Telling k table script₀ text₀ t₀ script text t → 3 < k
-    → AllTold table script₀ text₀ t₀ text t
-telling_end {k} {table} {script₀} {text₀} {t₀} {script} {text} {t} p h =
-    let e : k ≡ 4 = omega (arith, p.most) in
-    record { tells = λ rules f. tells_as (runs (take 6 script₀) 0 (of_sizes 0 4 rules)) (p.tells rules f) (ap (λ (j : ℕ). runs (take 6 script₀) 0 (of_sizes 0 j rules)) e) }
-
-pub telling_long : {k : ℕ} {table script₀ text₀ : List ℕ} {t₀ : Told} {script text : List ℕ} {t : Told} → Telling k table script₀ text₀ t₀ script text t
-    → length text ≡ length text₀
-telling_long p = let l = p.listing in written_long (p.tells l.rules l.listed).lines

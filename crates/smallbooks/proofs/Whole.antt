@@ -1,37 +1,28 @@
 -- From the sets' lines to a book's text, and to the whole of `output`.
-use Rattle.std.specs.Prelude.{◌≡◌, refl, List, [], ◌∷◌, ◌++◌, map, ℕ, zero, suc, ◌≤◌, length, take, drop}
+use Rattle.std.specs.Prelude.{◌≡◌, refl, List, [], ◌∷◌, ◌++◌, map, ℕ, zero, suc, ◌≤◌, length, drop}
 use Rattle.std.proofs.Math.Path.{ap}
-use Rattle.std.proofs.Common.{ap₂, subst, ◌∙◌, arith, zero-add, length-append}
+use Rattle.std.proofs.Common.{ap₂, ◌∙◌, arith, zero-add, length-append}
 use Rattle.std.proofs.lemmas.List.Edits.{sets-eq}
 use Rattle.text.specs.Bytes.{bytes}
 use Rattle.text.specs.Number.{shown}
 use Rattle.text.specs.Answers.{numbered}
 use Rattle.text.specs.PrintBound.{number_length, numbered-length}
-use Rattle.text.specs.WriteLaws.{Written, joined, written_as}
+use Rattle.text.specs.WriteLaws.{Written}
+use Rattle.text.specs.Prints.{Prints as PrintsMore, prints_more, prints_as, prints_from, printed_all}
 use Rattle.smallbooks.specs.declared.Found.{Found}
 use Rattle.smallbooks.specs.declared.Score.{Score}
 use Rattle.text.specs.declared.printer.Printer.{Printer}
-use Rattle.smallbooks.specs.Tell.{Told}
+use Rattle.smallbooks.specs.declared.Walk.{Walk}
 use Rattle.smallbooks.specs.Choose.{combinations, of_sizes}
-use Rattle.smallbooks.specs.Books.{upward, literals, apart, filter, clauses, sets, header, record_of, records_of, solve_record, script, fresh, solved, all_printed, printed_most, printed_book, book, output}
+use Rattle.smallbooks.specs.Books.{upward, literals, apart, filter, clauses, sets, header, records_of, solve_record, script, fresh, solved, all_printed, printed_most, printed_book, book, output}
 use Rattle.smallbooks.proofs.SetsLaws.{clauses_short}
 use Rattle.smallbooks.specs.Score.{scores, none_yet}
 use Rattle.smallbooks.proofs.ScoreLaws.{scores_most, scores_first}
-use Rattle.smallbooks.proofs.Place.{written_through}
-use Rattle.smallbooks.specs.Tell.{conflicts_of, run_of, runs, Tells, Listing, AllTold}
+use Rattle.smallbooks.specs.Tell.{conflicts_of, run_of, runs, Tells, Listing, Telling}
 use Rattle.smallbooks.proofs.Tell.{runs_long}
-use Rattle.smallbooks.specs.Whole.{table_cells, most_line, Booked, Prints, max_text}
+use Rattle.smallbooks.specs.Whole.{most_line, Booked, Prints, max_text}
 
 -- ---- how much there is of up to three variables
-
--- the records of the clauses
-records-known : (v : ℕ) → v ≤ 3 → length (records_of (clauses v)) ≤ table_cells
-unfolding combinations of_sizes upward literals apart filter clauses record_of records_of
-records-known zero h = omega arith
-records-known (suc zero) h = omega arith
-records-known (suc (suc zero)) h = omega arith
-records-known (suc (suc (suc zero))) h = omega arith
-records-known (suc (suc (suc (suc v)))) h = absurd (omega arith)
 
 -- the sets: 4, 93 and 2,952 of one, two and three variables
 pub sets_of_one : length (sets 1) ≡ 4
@@ -59,24 +50,20 @@ sets-known (suc (suc (suc (suc v)))) h = absurd (omega arith)
 
 -- ---- a book
 
-module _ (v : ℕ) (h : v ≤ 3) where
-  pub table_room : (table : List ℕ) → table_cells ≤ length table → length (records_of (clauses v)) ≤ length table
-  table_room table l = omega (arith, records-known v h, l)
+header-length : (v : ℕ) → length (header v) ≡ 6
+unfolding header
+header-length v = refl
 
-  module _ {before table : List ℕ} {n : ℕ} (w : Written before 0 (records_of (clauses v)) table n) (l : table_cells ≤ length before) where
-    pub table_is : take n table ≡ records_of (clauses v)
-    table_is = written_through w (omega (arith, table_room before l))
-
-    pub listing : {script text : List ℕ} {t : Told} → 24 ≤ length script → t.at ≤ length text → t.score ≡ none_yet → Listing (take n table) script text t
-    unfolding none_yet sets
-    listing {script} {text} {t} c p s = record {
-      rules = clauses v;
-      listed = table_is;
-      small = λ r i. omega (arith, clauses_short v r i, h);
-      cells = c;
-      place = p;
-      sets = omega (arith, ap (λ (x : Score). x.count) s, sets-known v h);
-    }
+pub listing : (v : ℕ) → v ≤ 3 → {w : Walk} {table : List ℕ} → table ≡ records_of (clauses v) → w.script.items ≡ header v → w.taken ≡ 0 → w.score ≡ none_yet → Listing w table
+unfolding none_yet sets
+listing v h {w} l s n z = record {
+  rules = clauses v;
+  same = l;
+  small = λ r i. omega (arith, clauses_short v r i, h);
+  cells = omega (arith, ap length s, header-length v);
+  none = n;
+  sets = omega (arith, ap (λ (x : Score). x.count) z, sets-known v h);
+}
 
 solved-run : (v : ℕ) (s : List (List ℕ)) → run_of (header v) 0 s ≡ solved v s
 unfolding run_of solved script
@@ -105,44 +92,45 @@ most_length s h k =
       numbered-length (bytes " ") s.first k,
     )
 
-pub booked : {v : ℕ} {table script text : List ℕ} {t : Told} {text' : List ℕ} {r : Told} {text'' : List ℕ} {e : ℕ} → AllTold table script text t text' r
-    → table ≡ records_of (clauses v) → take 6 script ≡ header v → t.score ≡ none_yet
-    → Written text' r.at (most_line r.score) text'' e → length (most_line r.score) ≤ 27 → Booked v text t.at text'' e
+pub booked : {v : ℕ} {old new : Walk} {table : List ℕ} {q p : Printer} → Telling 4 old new table
+    → table ≡ records_of (clauses v) → old.script.items ≡ header v → old.taken ≡ 0 → old.score ≡ none_yet
+    → q ≡ new.printer.now → PrintsMore q p (most_line new.score) → length (most_line new.score) ≤ 27 → Booked v old.printer.now p
 unfolding sets book printed_book
-booked {v} {table} {script} {text} {t} {text'} {r} {text''} {e} a l k z w h =
-    let fs = runs (take 6 script) 0 (of_sizes 0 4 (clauses v)) in
-    let p : Tells text t fs text' r = a.tells (clauses v) l in
-    let same : fs ≡ map (solved v) (sets v) = ap (λ (x : List ℕ). runs x 0 (of_sizes 0 4 (clauses v))) k ∙ runs-solved v (of_sizes 0 4 (clauses v)) in
-    let score : r.score ≡ scores none_yet (conflicts_of fs) = p.score ∙ ap (λ (s : Score). scores s (conflicts_of fs)) z in
-    let most = most_printed r.score (conflicts_of fs) score in
-    let all : all_printed fs ++ most_line r.score ≡ printed_book fs = ap (λ (x : List ℕ). all_printed fs ++ x) most in
-    let whole = all ∙ ap printed_book same in
+booked {v} {old} {new} {table} {q} {p} a l s n z e w h =
+    let fs = runs old.script.items old.taken (of_sizes 0 4 (clauses v)) in
+    let t : Tells old new fs = a.tells (clauses v) l in
+    let same : fs ≡ map (solved v) (sets v) = ap₂ (λ (x : List ℕ) (m : ℕ). runs x m (of_sizes 0 4 (clauses v))) s n ∙ runs-solved v (of_sizes 0 4 (clauses v)) in
+    let score : new.score ≡ scores none_yet (conflicts_of fs) = t.score ∙ ap (λ (x : Score). scores x (conflicts_of fs)) z in
+    let most = most_printed new.score (conflicts_of fs) score in
+    let whole = ap (λ (x : List ℕ). all_printed fs ++ x) most ∙ ap printed_book same in
     record {
-      lines = written_as (book v) (joined p.lines w) whole;
+      lines = prints_as (book v) whole (prints_more t.lines (prints_from e w));
       short = omega (
         arith,
         ap length whole,
-        length-append (all_printed fs) (most_line r.score),
-        p.short,
-        runs_long (take 6 script) 0 (of_sizes 0 4 (clauses v)),
+        length-append (all_printed fs) (most_line new.score),
+        t.short,
+        runs_long old.script.items old.taken (of_sizes 0 4 (clauses v)),
         h,
       );
     }
 
 -- ---- the whole
 
-pub prints : {s one two three : List ℕ} {a b r : ℕ} → Booked 1 s 0 one a → Booked 2 one a two b → Booked 3 two b three r → Prints s three r
+-- through a printer over the slice
+pub prints : {s after : List ℕ} {p one two three : Printer} → p.at ≡ 0 → p.text.now ≡ s → after ≡ three.text.now
+    → Booked 1 p one → Booked 2 one two → Booked 3 two three → Prints s after three.at
 unfolding output
-prints {s} {one} {two} {three} {a} {b} {r} p q z =
-    let w : Written s 0 output three r = joined (joined p.lines q.lines) z.lines in
+prints {s} {after} z f g x y t =
+    let w : Written s 0 output after _ = printed_all output (prints_more (prints_more x.lines y.lines) t.lines) refl z f g in
     let short : length output ≤ max_text =
     omega (
       arith,
       length-append (book 1 ++ book 2) (book 3),
       length-append (book 1) (book 2),
-      p.short,
-      q.short,
-      z.short,
+      x.short,
+      y.short,
+      t.short,
       sets_of_one,
       sets_of_two,
       sets_of_three,
@@ -154,9 +142,3 @@ prints {s} {one} {two} {three} {a} {b} {r} p q z =
         omega (arith, w.end, short),
       );
     }
-
--- through a printer over the slice
-pub prints_by : (p : Printer) {s after one two three : List ℕ} {a b r : ℕ} → p.at ≡ 0 → p.text.now ≡ s → after ≡ three → Booked 1 p.text.now p.at one a → Booked 2 one a two b
-    → Booked 3 two b three r → Prints s after r
-prints_by p {s} {after} {one} {two} {three} {a} {b} {r} z f g x y w =
-    rw g (prints (subst (λ (t : List ℕ). Booked 1 t 0 one a) f (subst (λ (i : ℕ). Booked 1 p.text.now i one a) z x)) y w)

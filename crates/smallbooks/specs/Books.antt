@@ -1,12 +1,12 @@
 -- Every small rule book, and what the program prints of it: `output`.
-use Rattle.std.specs.Prelude.{ℕ, zero, suc, ◌+◌, ◌*◌, max, Bool, true, false, ◌&&◌, not, List, [], ◌∷◌, ◌++◌, map, length, get_or, replicate, eqb}
+use Rattle.std.specs.Prelude.{ℕ, zero, suc, ◌+◌, ◌*◌, max, Bool, true, false, ◌&&◌, not, List, [], ◌∷◌, ◌++◌, map, length, get_or, replicate, eqb, Some}
 use Rattle.model.specs.Lit.{var}
 use Rattle.model.specs.State.{f64_zero}
 use Rattle.model.specs.Script.{clause_kind, solve_kind}
 use Rattle.model.specs.Run.{After, turned_back, ran, after}
 use Rattle.text.specs.Bytes.{bytes}
 use Rattle.text.specs.Number.{shown}
-use Rattle.text.specs.declared.kinds.Verdict.TheVariants.{Undef}
+use Rattle.cells.specs.declared.Verdict.TheVariants.{Undef}
 use Rattle.text.specs.Kinds.{verdict_of, cell_of}
 use Rattle.text.specs.Answers.{verdict, numbered}
 use Rattle.smallbooks.specs.declared.Found.{Found}
@@ -82,7 +82,7 @@ script v s = header v ++ (records_of s ++ solve_record)
 -- what a run says of the solve that stands behind n clauses; a refusal would be no verdict
 unfoldable pub found : ℕ → After → Found
 found n x = elim x.answer [
-  | turned_back _ _ ↦ record { verdict = Undef; conflicts = 0 }
+  | turned_back _ _ ↦ record { verdict = Some Undef; conflicts = 0 }
   | ran _ ↦ record { verdict = verdict_of (get_or x.out n 0); conflicts = get_or x.out (n + 1) 0 }
 ]
 

@@ -1,8 +1,7 @@
 -- The clauses, as the code picks them literal by literal and puts their records into a table.
-use Rattle.std.specs.Prelude.{◌≡◌, List, [], ◌∷◌, ◌++◌, map, ℕ, ◌+◌, ◌-◌, ◌≤◌, length, take}
-use Rattle.text.specs.WriteLaws.{Written}
+use Rattle.std.specs.Prelude.{◌≡◌, List, [], ◌∷◌, ◌++◌, map, ℕ, ◌+◌, ◌-◌, ◌≤◌, length}
 use Rattle.smallbooks.specs.Choose.{combinations, of_sizes}
-use Rattle.smallbooks.specs.Books.{upward, literals, apart, filter, clauses, records_of}
+use Rattle.smallbooks.specs.Books.{upward, literals, apart, filter, records_of}
 
 -- ---- a clause that is kept, or not
 
@@ -15,17 +14,15 @@ if_apart c = records_of (filter apart (c ∷ []))
 unfoldable pub picked : List ℕ → ℕ → ℕ → ℕ → List ℕ
 picked p k l end = records_of (filter apart (map (λ c. p ++ c) (combinations k (upward l (end - l)))))
 
--- before the picking: there is room
-pub record Picking (l end left : ℕ) (chosen : List ℕ) (n : ℕ) (table : List ℕ) (at : ℕ) : Type 0 where
-  pub from : l ≤ end
-  pub literals : n + left ≤ length chosen
-  pub some : length chosen ≤ 4294967295
-  pub room : at + length (picked (take n chosen) left l end) ≤ length table
+-- the cells of the table: as many as the records of the clauses of three variables have
+abbrev pub table_cells : ℕ
+table_cells = 112
 
--- and after it
-pub record Picked (l end left : ℕ) (chosen : List ℕ) (n : ℕ) (table : List ℕ) (at : ℕ) (chosen' table' : List ℕ) (r : ℕ) : Type 0 where
-  pub kept : take n chosen' ≡ take n chosen
-  pub cells : Written table at (picked (take n chosen) left l end) table' r
+-- before the picking: there is room
+pub record Picking (l end left : ℕ) (chosen table : List ℕ) : Type 0 where
+  pub from : l ≤ end
+  pub literals : length chosen + left ≤ 3
+  pub room : length table + length (picked chosen left l end) ≤ table_cells
 
 -- ---- length by length
 
@@ -34,8 +31,6 @@ unfoldable pub gathered : ℕ → ℕ → List ℕ
 gathered v k = records_of (filter apart (of_sizes 1 k (literals v)))
 
 -- between two lengths
-pub record Gathering (v k : ℕ) (first table : List ℕ) (at : ℕ) : Type 0 where
-  pub some : 1 ≤ k
-  pub most : k ≤ v + 1
-  pub cells : Written first 0 (gathered v (k - 1)) table at
-  pub room : length (records_of (clauses v)) ≤ length first
+pub record Gathering (v k : ℕ) (chosen table : List ℕ) : Type 0 where
+  pub none : chosen ≡ []
+  pub cells : table ≡ gathered v (k - 1)

@@ -4,15 +4,11 @@ use Rattle.text.specs.Bytes.{bytes}
 use Rattle.text.specs.Number.{shown}
 use Rattle.text.specs.Answers.{numbered}
 use Rattle.text.specs.WriteLaws.{Written}
+use Rattle.text.specs.declared.printer.Printer.{Printer}
+use Rattle.text.specs.Prints.{Prints as PrintsMore}
 use Rattle.smallbooks.specs.declared.Score.{Score}
 use Rattle.smallbooks.specs.Books.{sets, book, output}
 use Rattle.smallbooks.specs.Tell.{longest}
-
--- ---- how much there is of up to three variables
-
--- the cells of the table
-abbrev pub table_cells : ℕ
-table_cells = 112
 
 -- ---- a book
 
@@ -20,8 +16,8 @@ table_cells = 112
 unfoldable pub most_line : Score → List ℕ
 most_line s = bytes "most=" ++ shown s.most ++ numbered (bytes " ") s.first
 
-pub record Booked (v : ℕ) (text : List ℕ) (at : ℕ) (text' : List ℕ) (r : ℕ) : Type 0 where
-  pub lines : Written text at (book v) text' r
+pub record Booked (v : ℕ) (old new : Printer) : Type 0 where
+  pub lines : PrintsMore old new (book v)
   pub short : length (book v) ≤ longest * length (sets v) + 27
 
 -- ---- the whole

@@ -1,23 +1,23 @@
 // Every small rule book: the sets of at most three clauses over V variables, each solved in a fresh run.
 #![tactic(auto)]
 
-ghost use Rattle.std.specs.Prelude.{◌≡◌, ◌+◌, ◌*◌, ◌≤◌, ◌<◌, length};
-ghost use Rattle.text.specs.WriteLaws.{Written};
+ghost use Rattle.std.specs.Prelude.{◌≡◌, [], ◌∷◌, ◌++◌, ◌+◌, ◌≤◌, ◌<◌, length};
 ghost use Rattle.text.specs.Prints.{Prints as PrintsMore};
-ghost use Rattle.std.proofs.lemmas.List.Edits.{sets};
-ghost use Rattle.model.specs.Run.{after};
-ghost use Rattle.smallbooks.specs.Books.{apart, clauses, header, record_of, records_of, solve_record, found, fresh, printed};
-ghost use Rattle.smallbooks.specs.Pick.{if_apart, Picking, Picked};
+ghost use Rattle.smallbooks.specs.Books.{apart, clauses, header, record_of, records_of, solve_record, fresh, printed};
+ghost use Rattle.smallbooks.specs.Pick.{if_apart, picked, table_cells, Picking};
 ghost use Rattle.smallbooks.specs.Score.{one_more};
-ghost use Rattle.smallbooks.specs.Tell.{longest, told, Solved, Choosing, Chose, Listing, AllTold};
-ghost use Rattle.smallbooks.specs.Whole.{table_cells, most_line, Booked, Prints};
+ghost use Rattle.smallbooks.specs.Tell.{longest, Choosing, Chose, Tells, Listing, Telling};
+ghost use Rattle.smallbooks.specs.Whole.{most_line, Booked, Prints};
 
+use arrayvec::ArrayVec;
+use options::{Mode, Phase};
+use script::Kind;
 use text::{Printer, Verdict};
 
 // What a run answers to its solve.
 #[derive(Clone, Copy)]
 pub struct Found {
-    pub verdict: Verdict,
+    pub verdict: Option<Verdict>,
     pub conflicts: u32,
 }
 
@@ -29,141 +29,92 @@ pub struct Score {
     pub first: u32,
 }
 
+impl Score {
+    // A set more.
+    fn add(&mut self, conflicts: u32)
+        requires { self.old.count < 4294967295 }
+        ensures { self.new ≡ one_more self.old conflicts }
+    {
+        self.count += 1;
+        if self.most < conflicts {
+            self.most = conflicts;
+            self.first = self.count;
+        }
+    }
+}
+
 // ---- the clauses
+
+// The literals of a clause; of three variables it has no more.
+type Clause = ArrayVec<u32, 3>;
+
+// The records of all clauses.
+type Table = ArrayVec<u32, 112>;
 
 // No variable twice: the literals stand upward, so those of a variable stand side by side.
 fn apart(clause: &[u32]) -> bool
     ensures { result ≡ apart clause.now }
 {
-    let mut i: usize = 0;
-    while i + 1 < clause.len() {
-        if clause[i] / 2 == clause[i + 1] / 2 {
-            return false;
-        }
-        i += 1;
-    }
-    true
+    clause
+        .iter()
+        .zip(clause.iter().skip(1))
+        .all(|(l, m)| l / 2 != m / 2)
 }
 
-// A clause's record.
-fn put_clause(to: &mut [u32], at: usize, clause: &[u32]) -> usize
-    requires { (at + (2 + length clause.now) ≤ length to.old) × (length clause.now ≤ 4294967295) }
-    ensures { Written to.old at (record_of clause.now) to.new result }
+// A clause's record, to a vector: `Writer::put` of crate counter writes one to a slice.
+fn put_clause<const N: usize>(to: &mut ArrayVec<u32, N>, clause: &[u32])
+    requires room { length to.old.items + (2 + length clause.now) ≤ N }
+    requires short { length clause.now ≤ 4294967295 }
+    ensures { to.new.items ≡ to.old.items ++ record_of clause.now }
 {
-    let n = clause.len();
-    to[at] = 1;
-    to[at + 1] = n as u32;
-    cells::put(to, at + 2, clause);
-    at + 2 + n
+    to.push(Kind::Clause as u32);
+    to.push(clause.len() as u32);
+    to.try_extend_from_slice(clause).unwrap();
 }
 
 // A clause joins the table, if it has no variable twice.
-fn keep(clause: &[u32], table: &mut [u32], at: usize) -> usize
-    requires { (at + length (if_apart clause.now) ≤ length table.old) × (length clause.now ≤ 4294967295) }
-    ensures { Written table.old at (if_apart clause.now) table.new result }
+fn keep(clause: &[u32], table: &mut Table)
+    requires room { length table.old.items + length (if_apart clause.now) ≤ table_cells }
+    requires short { length clause.now ≤ 4294967295 }
+    ensures { table.new.items ≡ table.old.items ++ if_apart clause.now }
 {
     if apart(clause) {
-        return put_clause(table, at, clause);
+        put_clause(table, clause);
     }
-    at
 }
 
-// The clauses of the n literals chosen and `left` more, each from l to end - 1.
-fn each_clause(
-    l: u32,
-    end: u32,
-    left: usize,
-    chosen: &mut [u32],
-    n: usize,
-    table: &mut [u32],
-    at: usize,
-) -> usize
-    requires { Picking l end left chosen.old n table.old at }
-    ensures { Picked l end left chosen.old n table.old at chosen.new table.new result }
+// The clauses of the literals chosen and `left` more, each from l to end - 1.
+fn each_clause(l: u32, end: u32, left: usize, chosen: &mut Clause, table: &mut Table)
+    requires { Picking l end left chosen.old.items table.old.items }
+    ensures kept { chosen.new.items ≡ chosen.old.items }
+    ensures cells { table.new.items ≡ table.old.items ++ picked chosen.old.items left l end }
 {
     if left == 0 {
-        return keep(&chosen[..n], table, at);
+        return keep(chosen, table);
     }
     if l == end {
-        return at;
+        return;
     }
-    chosen[n] = l;
-    let k = each_clause(l + 1, end, left - 1, chosen, n + 1, table, at);
-    each_clause(l + 1, end, left, chosen, n, table, k)
+    chosen.push(l);
+    each_clause(l + 1, end, left - 1, chosen, table);
+    chosen.pop();
+    each_clause(l + 1, end, left, chosen, table);
 }
 
 // The clauses of v variables, by length.
-fn clauses(v: u32, chosen: &mut [u32], table: &mut [u32]) -> usize
-    requires v_in_bounds { (v ≤ length chosen.old) × (length chosen.old ≤ 2147483647) }
-    requires v_in_bounds_2 { length (records_of (clauses v)) ≤ length table.old }
-    ensures { Written table.old 0 (records_of (clauses v)) table.new result }
+fn clauses(v: u32) -> Table
+    requires { v ≤ 3 }
+    ensures { result.items ≡ records_of (clauses v) }
 {
-    let end = 2 * v;
-    let most = v as usize;
-    let mut at: usize = 0;
-    let mut k: usize = 1;
-    while k <= most {
-        at = each_clause(0, end, k, chosen, 0, table, at);
-        k += 1;
+    let mut chosen = Clause::new();
+    let mut table = Table::new();
+    for k in 1..v + 1 {
+        each_clause(0, 2 * v, k as usize, &mut chosen, &mut table);
     }
-    at
+    table
 }
 
 // ---- a set
-
-// The answer to the solve behind n clauses.
-fn answer(
-    script: &[u32],
-    n: usize,
-    work: &mut [u32],
-    activities: &mut [f64],
-    out: &mut [u32],
-) -> Found
-    requires { n + 1 < length out.old }
-    ensures { result ≡ found n (after script.now work.old activities.old out.old) }
-{
-    match engine::run(script, work, activities, out) {
-        Err(_) => Found {
-            verdict: Verdict::Undef,
-            conflicts: 0,
-        },
-        Ok(_) => Found {
-            verdict: Verdict::from(out[n]),
-            conflicts: out[n + 1],
-        },
-    }
-}
-
-// The answer of a fresh run.
-fn fresh(script: &[u32], n: usize) -> Found
-    requires { n ≤ 3 }
-    ensures { result ≡ fresh n script.now }
-{
-    let mut work = [0u32; 8352];
-    let mut activities = [0.0f64; 3];
-    let mut out = [0u32; 10];
-    answer(script, n, &mut work, &mut activities, &mut out)
-}
-
-// A set more.
-fn counted(score: Score, conflicts: u32) -> Score
-    requires { score.count < 4294967295 }
-    ensures { result ≡ one_more score conflicts }
-{
-    let n = score.count + 1;
-    if score.most < conflicts {
-        return Score {
-            count: n,
-            most: conflicts,
-            first: n,
-        };
-    }
-    Score {
-        count: n,
-        most: score.most,
-        first: score.first,
-    }
-}
 
 // A set's two lines.
 fn put_found(printer: &mut Printer, found: Found)
@@ -174,84 +125,100 @@ fn put_found(printer: &mut Printer, found: Found)
     printer.numbered(b"conflicts=", u64::from(found.conflicts));
 }
 
-// The solve's record.
-fn put_solve(script: &mut [u32], at: usize) -> usize
-    requires { at + 3 ≤ length script.old }
-    ensures { Written script.old at solve_record script.new result }
-{
-    script[at] = 2;
-    script[at + 1] = 0;
-    script[at + 2] = 1000000;
-    at + 3
-}
-
-// A set of n clauses, whose script lacks its solve: its run and its lines.
-fn solved(script: &mut [u32], used: usize, n: usize, score: Score, printer: &mut Printer) -> Score
-    requires { (used + 3 ≤ length script.old) × (n ≤ 3) × (score.count < 4294967295) }
-    ensures same_reference { printer.new.text.ghost_name ≡ printer.old.text.ghost_name }
-    ensures solved { Solved script.old used n printer.old.text.now (told printer.old.at score) script.new printer.new.text.now (told printer.new.at result) }
-{
-    let end = put_solve(script, used);
-    let found = fresh(&script[..end], n);
-    put_found(printer, found);
-    counted(score, found.conflicts)
-}
-
-// ---- the sets
-
-// The sets of the n clauses in the script and `left` more, each of those listed from the table's cell `from` on.
-fn each_set(
-    table: &[u32],
-    from: usize,
-    left: usize,
-    script: &mut [u32],
-    used: usize,
-    n: usize,
-    score: Score,
-    printer: &mut Printer,
-) -> Score
-    requires { Choosing table.now from left script.old used n printer.old.text.now (told printer.old.at score) }
-    ensures same_reference { printer.new.text.ghost_name ≡ printer.old.text.ghost_name }
-    ensures chose { Chose table.now from left script.old used n printer.old.text.now (told printer.old.at score) script.new printer.new.text.now (told printer.new.at result) }
-{
-    if left == 0 {
-        return solved(script, used, n, score, printer);
-    }
-    if from == table.len() {
-        return score;
-    }
-    let start = from + 2;
-    let next = start + table[from + 1] as usize;
-    let end = put_clause(script, used, &table[start..next]);
-    let more = each_set(table, next, left - 1, script, end, n + 1, score, printer);
-    each_set(table, next, left, script, used, n, more, printer)
-}
-
-// The sets of at most three clauses, by size.
-fn sets(table: &[u32], script: &mut [u32], score: Score, printer: &mut Printer) -> Score
-    requires { Listing table.now script.old printer.old.text.now (told printer.old.at score) }
-    ensures same_reference { printer.new.text.ghost_name ≡ printer.old.text.ghost_name }
-    ensures all { AllTold table.now script.old printer.old.text.now (told printer.old.at score) printer.new.text.now (told printer.new.at result) }
-{
-    let mut total = score;
-    for k in 0..4 {
-        total = each_set(table, 0, k, script, 6, 0, total, printer);
-    }
-    total
-}
-
 // ---- a book
 
-fn put_header(script: &mut [u32], v: u32)
-    requires { 6 ≤ length script.old }
-    ensures { script.new ≡ sets script.old 0 (header v) }
+// A header, the records of three clauses, and a solve's.
+type Script = ArrayVec<u32, 24>;
+
+// A walk through the sets: the script of the clauses taken, without its solve, how many they are, which a script does not say, and what is told so far.
+#[derive(Drop)]
+struct Walk<'a, 'b> {
+    script: Script,
+    taken: usize,
+    score: Score,
+    printer: &'a mut Printer<'b>,
+}
+
+impl Walk<'_, '_> {
+    // What a fresh run of the script says of the solve behind the clauses taken.
+    fn found(&self) -> Found
+        requires { self.now.taken ≤ 3 }
+        ensures { result ≡ fresh self.now.taken self.now.script.items }
+    {
+        let mut work = [0; 8352];
+        let mut activities = [0.0; 3];
+        let mut out = [0; 10];
+        match engine::run(&self.script, &mut work, &mut activities, &mut out) {
+            Err(_) => Found {
+                verdict: Some(Verdict::Undef),
+                conflicts: 0,
+            },
+            Ok(_) => Found {
+                verdict: Verdict::from_cell(out[self.taken]),
+                conflicts: out[self.taken + 1],
+            },
+        }
+    }
+
+    // The set's run and its lines. `same_reference`, here and below: the printer is still the one that was lent, which `Tells` does not say, since it is of what
+    // stands in it.
+    fn solve(&mut self)
+        requires { (length self.old.script.items + 3 ≤ 24) × (self.old.taken ≤ 3) × (self.old.score.count < 4294967295) }
+        ensures same_reference { self.new.printer.ghost_name ≡ self.old.printer.ghost_name }
+        ensures told { Tells self.old self.new (fresh self.old.taken (self.old.script.items ++ solve_record) ∷ []) }
+    {
+        let used = self.script.len();
+        self.script
+            .try_extend_from_slice(&[Kind::Solve as u32, 0, 1000000])
+            .unwrap();
+        let found = self.found();
+        self.script.truncate(used);
+        put_found(self.printer, found);
+        self.score.add(found.conflicts);
+    }
+
+    // The sets of the clauses in the script and `left` more of those listed.
+    fn each_set(&mut self, listed: &[u32], left: usize)
+        requires { Choosing self.old listed.now left }
+        ensures same_reference { self.new.printer.ghost_name ≡ self.old.printer.ghost_name }
+        ensures chose { Chose self.old self.new listed.now left }
+    {
+        if left == 0 {
+            return self.solve();
+        }
+        let [_, n, rest @ ..] = listed else {
+            return;
+        };
+        let (clause, rest) = rest.split_at(*n as usize);
+        let used = self.script.len();
+        put_clause(&mut self.script, clause);
+        self.taken += 1;
+        self.each_set(rest, left - 1);
+        self.script.truncate(used);
+        self.taken -= 1;
+        self.each_set(rest, left);
+    }
+
+    // The sets of at most three clauses, by size.
+    fn sets(&mut self, table: &[u32])
+        requires { Listing self.old table.now }
+        ensures same_reference { self.new.printer.ghost_name ≡ self.old.printer.ghost_name }
+        ensures told { Telling 4 self.old self.new table.now }
+    {
+        for k in 0..4 {
+            self.each_set(table, k);
+        }
+    }
+}
+
+fn header(v: u32) -> Script
+    ensures { result.items ≡ header v }
 {
-    script[0] = v;
-    script[1] = 512;
-    script[2] = 4096;
-    script[3] = 2;
-    script[4] = 2;
-    script[5] = 100;
+    let mut script = Script::new();
+    script
+        .try_extend_from_slice(&[v, 512, 4096, Mode::Minimise as u32, Phase::Full as u32, 100])
+        .unwrap();
+    script
 }
 
 // The greatest conflicts, and the first set with that many.
@@ -264,33 +231,25 @@ fn put_most(printer: &mut Printer, score: Score)
     printer.numbered(b" ", u64::from(score.first));
 }
 
-// The sets of v variables, and their most; `chosen`, `table` and `script` are for the literals of a clause, the clauses, and a set's script.
-fn book_in(v: u32, chosen: &mut [u32], table: &mut [u32], script: &mut [u32], printer: &mut Printer)
-    requires v_bound { v ≤ 3 }
-    requires chosen_len { (length chosen.old ≡ 3) × (table_cells ≤ length table.old) × (24 ≤ length script.old) }
-    ensures same_reference { printer.new.text.ghost_name ≡ printer.old.text.ghost_name }
-    ensures booked { Booked v printer.old.text.now printer.old.at printer.new.text.now printer.new.at }
-{
-    let n = clauses(v, chosen, table);
-    put_header(script, v);
-    let none = Score {
-        count: 0,
-        most: 0,
-        first: 1,
-    };
-    let score = sets(&table[..n], script, none, printer);
-    put_most(printer, score);
-}
-
+// The sets of v variables, and their most.
 fn book(v: u32, printer: &mut Printer)
     requires { v ≤ 3 }
-    ensures same_reference { printer.new.text.ghost_name ≡ printer.old.text.ghost_name }
-    ensures booked { Booked v printer.old.text.now printer.old.at printer.new.text.now printer.new.at }
+    ensures { Booked v printer.old printer.new }
 {
-    let mut chosen = [0u32; 3];
-    let mut table = [0u32; 112];
-    let mut script = [0u32; 24];
-    book_in(v, &mut chosen, &mut table, &mut script, printer);
+    let table = clauses(v);
+    let mut walk = Walk {
+        script: header(v),
+        taken: 0,
+        score: Score {
+            count: 0,
+            most: 0,
+            first: 1,
+        },
+        printer,
+    };
+    walk.sets(&table);
+    let score = walk.score;
+    put_most(printer, score);
 }
 
 // Every small rule book, of one, two and three variables; the result is where the text ends.

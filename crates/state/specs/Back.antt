@@ -1,23 +1,23 @@
 -- The way back to a level keeps a state still.
-use Rattle.std.specs.Prelude.{ℕ, ◌≤◌, ◌<◌, ◌≡◌, refl, length, get_or}
+use Rattle.std.specs.Prelude.{ℕ, ◌≤◌, ◌<◌, ◌≡◌, length}
 use Rattle.std.proofs.Common.{arith, sym, subst, ◌∙◌, ap}
 use Rattle.std.proofs.Math.Seq.{length-take-le}
-use Rattle.model.specs.State as model
 use Rattle.model.specs.State.{decision_level}
 use Rattle.model.specs.Trail.{vars_until, cancel_until, level_end}
 use Rattle.lawbase.specs.WellFormed.{WellFormed}
 use Rattle.assign.proofs.Lists.{get_or_in}
 use Rattle.assign.proofs.Reading.{trail_var}
 use Rattle.assign.proofs.Back.{cancel_low, cancel_high, cancel_formed}
+use Rattle.options.specs.Numbers.{phase_number}
 use Rattle.trail.specs.View.{Undoable, until}
 use Rattle.state.specs.declared.State.{State}
-use Rattle.state.specs.Still.{Sized, Idle, Still, Has, config_of, state_at}
+use Rattle.state.specs.Still.{Still, Has, config_of, state_at}
 
 module _ (s : State) (k : Still s) (level : ℕ) where
   -- the level is not left
-  pub back_stays : decision_level s.trail.vars ≤ level → Has s (cancel_until s.config.phase (state_at s) level)
+  pub back_stays : decision_level s.trail.vars ≤ level → Has s (cancel_until (phase_number s.config.phase) (state_at s) level)
   back_stays h =
-      let e = cancel_high s.config.phase (state_at s) level h in
+      let e = cancel_high (phase_number s.config.phase) (state_at s) level h in
       record { still = k; state = sym e }
 
   module _ (h : level < decision_level s.trail.vars) where
@@ -35,16 +35,16 @@ module _ (s : State) (k : Still s) (level : ℕ) where
     gone =
         record {
           config = s.config;
-          trail = until s.config.phase s.trail level;
+          trail = until (phase_number s.config.phase) s.trail level;
           scratch = s.scratch;
           watches = s.watches;
           clauses = s.clauses;
           finals = s.finals;
-          qhead = length (until s.config.phase s.trail level).vars.trail;
+          qhead = length (until (phase_number s.config.phase) s.trail level).vars.trail;
           ok = s.ok;
         }
 
-    gone_state : state_at gone ≡ cancel_until s.config.phase (state_at s) level
+    gone_state : state_at gone ≡ cancel_until (phase_number s.config.phase) (state_at s) level
     unfolding vars_until
     gone_state =
         let n : length (vars_until s.trail.vars level).trail ≡ level_end s.trail.vars level = length-take-le (level_end s.trail.vars level) s.trail.vars.trail (k.formed.vars.limits level h) in
@@ -54,15 +54,15 @@ module _ (s : State) (k : Still s) (level : ℕ) where
           ok = s.ok;
           store = (state_at s).store;
           vars = vars_until s.trail.vars level;
-          phases = (until s.config.phase s.trail level).phases;
+          phases = (until (phase_number s.config.phase) s.trail level).phases;
           qhead = q;
         })
         n
-        ∙ sym (cancel_low s.config.phase (state_at s) level h)
+        ∙ sym (cancel_low (phase_number s.config.phase) (state_at s) level h)
 
-    pub back_goes : Has gone (cancel_until s.config.phase (state_at s) level)
+    pub back_goes : Has gone (cancel_until (phase_number s.config.phase) (state_at s) level)
     back_goes =
-        let f : WellFormed (config_of s.config) (state_at gone) = subst (WellFormed (config_of s.config)) (sym gone_state) (cancel_formed k.formed s.config.phase level) in
+        let f : WellFormed (config_of s.config) (state_at gone) = subst (WellFormed (config_of s.config)) (sym gone_state) (cancel_formed k.formed (phase_number s.config.phase) level) in
         record {
           still =
               record {

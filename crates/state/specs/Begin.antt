@@ -1,12 +1,11 @@
 -- The start is a still state.
-use Rattle.std.specs.Prelude.{ℕ, zero, suc, ◌+◌, ◌-◌, ◌*◌, ◌≤◌, ◌≡◌, refl, true, List, [], length, take, drop, replicate}
-use Rattle.std.proofs.Common.{arith, sym, subst, ◌∙◌, ap}
+use Rattle.std.specs.Prelude.{ℕ, zero, suc, ◌+◌, ◌*◌, ◌≡◌, refl, true, List, [], length, replicate}
+use Rattle.std.proofs.Common.{arith}
 use Rattle.std.proofs.lemmas.List.{length-replicate}
 use Rattle.region.specs.Table.{sum_of}
 use Rattle.watch.specs.Count.{occ, over}
-use Rattle.watch.specs.View.{Watches, Chains, Under}
-use Rattle.watch.specs.Meaning.{as_watches, as_emptied}
-use Rattle.model.specs.State as model
+use Rattle.watch.specs.View.{Watches, Chains}
+use Rattle.watch.specs.Meaning.{as_emptied}
 use Rattle.model.specs.State.{initial_state}
 use Rattle.lawbase.specs.WellFormed.{WellFormed}
 use Rattle.assign.proofs.Initial.{initial_formed}
@@ -17,8 +16,8 @@ use Rattle.store.specs.View.{Clauses}
 use Rattle.litset.specs.View.{Members}
 use Rattle.state.specs.declared.Config.{Config}
 use Rattle.state.specs.declared.State.{State}
-use Rattle.state.specs.Still.{Still, Has, config_of, state_at}
-use Rattle.state.specs.Start.{Room, Started}
+use Rattle.state.specs.Still.{Has, config_of, state_at}
+use Rattle.state.specs.Start.{Room}
 
 -- blocks part by part
 pub scratch_is : {x : Scratch} {marks : List ℕ} {buffer stack notes : Row} → x.marks ≡ marks → x.buffer ≡ buffer → x.stack ≡ stack → x.notes ≡ notes

@@ -1,15 +1,14 @@
 -- The nodes in the watch lists are those of stored clauses: so a new clause's nodes are in no list, and it can be attached.
-use Rattle.std.specs.Prelude.{ℕ, suc, ◌+◌, ◌-◌, ◌*◌, ◌/◌, ◌≤◌, ◌<◌, ◌≡◌, refl, ◌≢◌}
-use Rattle.std.proofs.Common.{arith, sym, subst, ◌∙◌, length-set}
-use Rattle.std.proofs.Math.Path.{ap}
-use mathlib.Core.List.{List, [], ◌∷◌, ◌++◌}
+use Rattle.std.specs.Prelude.{ℕ, ◌*◌, ◌≤◌, ◌<◌, ◌≡◌, refl}
+use Rattle.std.proofs.Common.{arith, sym, subst, ◌∙◌}
+use mathlib.Core.List.{[], ◌∷◌}
 use Rattle.std.proofs.Math.ListN.{length, get_or, length-append}
 use Rattle.std.proofs.Math.Seq.{get_or_at}
 use Rattle.model.specs.Lit.{neg}
 use Rattle.model.specs.State.{Watch, Store}
 use Rattle.model.specs.Store.{attach_clause}
 use Rattle.store.specs.View.{Clauses, clause_of, closed}
-use Rattle.watch.specs.View.{Watches, list_of, Under, Chains, attached}
+use Rattle.watch.specs.View.{Watches, list_of, Under, attached}
 use Rattle.watch.specs.Laws.{node_below}
 use Rattle.watch.specs.Meaning.{as_watches, under_clauses}
 use Rattle.watch.specs.Uses.{attached_under, as_attached}

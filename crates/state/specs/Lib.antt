@@ -5,3 +5,4 @@ pub mod Walk
 pub mod Start
 pub mod Back
 pub mod Begin
+pub mod Shown

@@ -11,7 +11,7 @@ use Rattle.store.specs.View as store
 use Rattle.store.specs.View.{no_clauses}
 use Rattle.state.specs.declared.Config.{Config}
 use Rattle.state.specs.declared.State.{State}
-use Rattle.state.specs.Still.{Still, Has}
+use Rattle.state.specs.Still.{Has}
 
 -- how many cells the blocks take
 abbrev pub used : Config → ℕ

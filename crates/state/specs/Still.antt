@@ -1,10 +1,15 @@
 -- What the blocks hold, as the definition's state, and what holds of it between two steps of a run.
-use Rattle.std.specs.Prelude.{ℕ, ◌+◌, ◌*◌, ◌≤◌, ◌≡◌, List, [], length, replicate}
+use Rattle.std.specs.Prelude.{◌+◌, ◌*◌, ◌≤◌, ◌≡◌, [], length, replicate}
 use Rattle.model.specs.Limits.{max_variables, max_clauses, max_literals}
 use Rattle.model.specs.Script as Script
 use Rattle.model.specs.State.{State}
 use Rattle.lawbase.specs.WellFormed.{WellFormed}
-use Rattle.watch.specs.View.{Chains, Under}
+use Rattle.options.specs.Numbers.{mode_number, phase_number}
+use Rattle.trail.specs.View.{Assignment}
+use Rattle.scratch.specs.declared.Scratch.{Scratch}
+use Rattle.store.specs.View.{Clauses}
+use Rattle.litset.specs.View.{Members}
+use Rattle.watch.specs.View.{Watches, Chains, Under}
 use Rattle.watch.specs.Meaning.{as_watches}
 use Rattle.state.specs.declared.Config.{Config}
 use Rattle.state.specs.declared.State as declared
@@ -16,8 +21,8 @@ config_of g =
       variables = g.vars;
       max_clauses = g.room;
       max_literals = g.lit_room;
-      mode = g.mode;
-      phase = g.phase;
+      mode = mode_number g.mode;
+      phase = phase_number g.phase;
       unit = g.unit;
     }
 
@@ -33,23 +38,27 @@ state_at s =
     }
 
 -- the blocks are as large as the configuration asks
-pub record Sized (s : declared.State) : Type 0 where
-  pub some : 1 ≤ s.config.vars
-  pub vars : s.config.vars ≤ max_variables
-  pub room : s.config.room ≤ max_clauses
-  pub lit_room : s.config.lit_room ≤ max_literals
-  pub values : length s.trail.vars.values ≡ s.config.vars
-  pub marks : length s.scratch.marks ≡ s.config.vars
-  pub buffer : length s.scratch.buffer.cells ≡ 2 * s.config.vars
-  pub stack : length s.scratch.stack.cells ≡ s.config.vars
-  pub notes : length s.scratch.notes.cells ≡ s.config.vars
-  pub lists : length s.watches.lists ≡ 2 * s.config.vars
-  pub blockers : length s.watches.blockers ≡ 2 * s.config.room
-  pub chains : Chains (2 * s.config.room) s.watches.lists
-  pub clauses : s.clauses.room ≡ s.config.room
-  pub literals : s.clauses.lit_room ≡ s.config.lit_room
-  pub flags : length s.finals.flag_cells ≡ 2 * s.config.vars
-  pub members : length s.finals.item_cells ≡ s.config.vars + 1
+pub record Sizes (g : Config) (t : Assignment) (x : Scratch) (w : Watches) (k : Clauses) (f : Members) : Type 0 where
+  pub some : 1 ≤ g.vars
+  pub vars : g.vars ≤ max_variables
+  pub room : g.room ≤ max_clauses
+  pub lit_room : g.lit_room ≤ max_literals
+  pub values : length t.vars.values ≡ g.vars
+  pub marks : length x.marks ≡ g.vars
+  pub buffer : length x.buffer.cells ≡ 2 * g.vars
+  pub stack : length x.stack.cells ≡ g.vars
+  pub notes : length x.notes.cells ≡ g.vars
+  pub lists : length w.lists ≡ 2 * g.vars
+  pub blockers : length w.blockers ≡ 2 * g.room
+  pub chains : Chains (2 * g.room) w.lists
+  pub clauses : k.room ≡ g.room
+  pub literals : k.lit_room ≡ g.lit_room
+  pub flags : length f.flag_cells ≡ 2 * g.vars
+  pub members : length f.item_cells ≡ g.vars + 1
+
+-- of the blocks alone: so whatever stands beside them may change
+abbrev pub Sized : declared.State → Type 0
+Sized s = Sizes s.config s.trail s.scratch s.watches s.clauses s.finals
 
 -- nothing is half done: no mark is set, no literal is pushed, no final clause is under way, and no node of a clause to come is listed
 pub record Idle (s : declared.State) : Type 0 where

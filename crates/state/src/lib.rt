@@ -3,27 +3,32 @@
 
 ghost use Rattle.std.specs.Prelude.{◌≡◌, length};
 ghost use Rattle.model.specs.Trail.{cancel_until};
+ghost use Rattle.options.specs.Numbers.{phase_number};
+ghost use Rattle.trail.specs.View.{back_to};
 ghost use Rattle.state.specs.Still.{Still, Has, Beside, state_at};
 ghost use Rattle.state.specs.Start.{Room, Started};
 ghost use Rattle.state.specs.Fresh.{Storable, Stored};
 
 use litset::LitSet;
+use options::{Mode, Phase};
 use scratch::Scratch;
 use store::Store;
 use trail::Trail;
 use watch::Watches;
 
-// What a script's header says.
+// What a script's header says, as sizes of slices: in a crate that knows no script.
 #[derive(Clone, Copy)]
 pub struct Config {
     pub vars: usize,
     pub room: usize,
     pub lit_room: usize,
-    pub mode: u32,
-    pub phase: u32,
+    pub mode: Mode,
+    pub phase: Phase,
     pub unit: u32,
 }
 
+// `Still` (specs/Still.antt) is what holds of it between two steps. It is no invariant of the type, since within a step it does not hold.
+// Nor are `Running` and `Between`, which are of a query or of the activities too. `Limited` is none of `Config`: `new` takes any unit, 0 too.
 #[derive(Drop)]
 pub struct State<'a> {
     pub config: Config,
@@ -33,11 +38,12 @@ pub struct State<'a> {
     pub clauses: Store<'a>,
     pub finals: LitSet<'a>,
     pub qhead: usize,
+    // The definition's, and apart from the blocks: it is false once the clauses taken are known to have no model, which no block shows.
     pub ok: bool,
 }
 
 impl<'a> State<'a> {
-    // No clause and nothing assigned, whatever stood in the slice.
+    // No clause and nothing assigned, whatever stood in the slice. `Room` is of the configuration and the slice's length, so it is asked and no invariant.
     pub fn new(config: Config, work: &'a mut [u32]) -> State<'a>
         requires { Room config (length work.old) }
         ensures { Started config work.old result }
@@ -63,11 +69,13 @@ impl<'a> State<'a> {
     }
 
     // Back to a level: what stands above it is unset, and the phases are saved as the configuration says.
+    #[tactic(auto, unfolding(trail::specs::View::back_to))]
     pub fn cancel_until(&mut self, level: usize)
         requires { Still self.old }
-        ensures has { Has self.new (cancel_until self.old.config.phase (state_at self.old) level) }
+        ensures has { Has self.new (cancel_until (phase_number self.old.config.phase) (state_at self.old) level) }
         ensures beside { Beside self.old self.new }
         ensures stored { (self.new.watches ≡ self.old.watches) × (self.new.clauses ≡ self.old.clauses) }
+        ensures trail { self.new.trail ≡ back_to (phase_number self.old.config.phase) self.old.trail level }
     {
         if self.trail.decision_level() <= level {
             return;

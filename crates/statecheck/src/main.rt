@@ -4,12 +4,13 @@
 ghost use Rattle.std.specs.Prelude.{◌+◌, ◌<◌, ◌≡◌, length};
 ghost use Rattle.state.specs.Walk.{On, More};
 ghost use Rattle.state.specs.Start.{Room};
-ghost use Rattle.tour.specs.Live.{Live};
 
 use clause::{Lit, Var};
 use litset::LitSet;
-use state::{Config, State};
+use options::{Mode, Phase};
+use state::Config;
 use store::Store;
+use tour::Tour;
 use trail::Trail;
 use watch::{Cursor, Watches};
 
@@ -18,6 +19,7 @@ fn put(rt: &impl Print, text: &str) {
     let _ = rt.print(text);
 }
 
+// Leafcheck has the same line: a crate that both would use is no plainer than the line.
 fn number(rt: &impl Print, n: u64) {
     let _ = print!(rt; "{n} ");
 }
@@ -107,10 +109,9 @@ fn list(rt: &impl Print, w: &Watches, l: Lit)
     put(rt, "| ");
 }
 
-fn lists(rt: &impl Print, s: &State)
-    requires { Live s.now }
-{
+fn lists(rt: &impl Print, t: &Tour) {
     put(rt, "watches ");
+    let s = t.state();
     for l in 0..2 * s.config.vars {
         list(rt, &s.watches, Lit(l as u32));
     }
@@ -124,84 +125,66 @@ fn finals(rt: &impl Print, set: &LitSet) {
 }
 
 // Two clauses, and a third that is refused: its first literal is of no variable.
-fn store_some(rt: &impl Print, s: &mut State)
-    requires { Live s.old }
-    ensures { Live s.new }
-{
-    tour::add(s, Lit(0), Lit(2), Lit(5));
-    tour::add(s, Lit(1), Lit(2), Lit(6));
-    tour::add(s, Lit(8), Lit(2), Lit(6));
-    all_clauses(rt, &s.clauses);
-    lists(rt, s);
+fn store_some(rt: &impl Print, t: &mut Tour) {
+    t.add(Lit(0), Lit(2), Lit(5));
+    t.add(Lit(1), Lit(2), Lit(6));
+    t.add(Lit(8), Lit(2), Lit(6));
+    all_clauses(rt, &t.state().clauses);
+    lists(rt, t);
 }
 
 // The first node of list 3 gets another blocker, then goes to list 7.
-fn clauses_part(rt: &impl Print, s: &mut State)
-    requires { Live s.old }
-    ensures { Live s.new }
-{
-    store_some(rt, s);
-    tour::reblock(s, Lit(3), Lit(5));
-    lists(rt, s);
-    tour::send(s, Lit(3), Lit(7), Lit(6));
-    lists(rt, s);
+fn clauses_part(rt: &impl Print, t: &mut Tour) {
+    store_some(rt, t);
+    t.reblock(Lit(3), Lit(5));
+    lists(rt, t);
+    t.send(Lit(3), Lit(7), Lit(6));
+    lists(rt, t);
 }
 
 // A level, and its first literal.
-fn decide(s: &mut State, p: Lit)
-    requires { Live s.old }
-    ensures { Live s.new }
-{
-    tour::open(s);
-    tour::put(s, p, None);
+fn decide(t: &mut Tour, p: Lit) {
+    t.open();
+    t.put(p, None);
 }
 
 // Two levels with one literal each, and a third with two.
-fn climb(s: &mut State)
-    requires { Live s.old }
-    ensures { Live s.new }
-{
-    decide(s, Lit(1));
-    decide(s, Lit(2));
-    decide(s, Lit(4));
-    tour::put(s, Lit(6), Some(1));
+fn climb(t: &mut Tour) {
+    decide(t, Lit(1));
+    decide(t, Lit(2));
+    decide(t, Lit(4));
+    t.put(Lit(6), Some(1));
 }
 
 // Up, back to level 1, and back to level 0, with what is assigned before each way back.
-fn swing(rt: &impl Print, s: &mut State, phase: u32)
-    requires { Live s.old }
-    ensures { Live s.new }
-{
-    climb(s);
-    assigned(rt, &s.trail);
-    tour::back(s, 1, phase);
-    assigned(rt, &s.trail);
-    tour::back(s, 0, phase);
+fn swing(rt: &impl Print, t: &mut Tour, phase: Phase) {
+    climb(t);
+    assigned(rt, &t.state().trail);
+    t.back(1, phase);
+    assigned(rt, &t.state().trail);
+    t.back(0, phase);
 }
 
 // Three literals, two of them the same; and none again.
-fn final_clause(rt: &impl Print, s: &mut State)
-    requires { Live s.old }
-    ensures { Live s.new }
-{
-    tour::finish(s, Lit(5));
-    tour::finish(s, Lit(0));
-    tour::finish(s, Lit(5));
-    finals(rt, &s.finals);
-    tour::unfinish(s);
-    finals(rt, &s.finals);
+fn final_clause(rt: &impl Print, t: &mut Tour) {
+    t.finish(Lit(5));
+    t.finish(Lit(0));
+    t.finish(Lit(5));
+    finals(rt, &t.state().finals);
+    t.unfinish();
+    finals(rt, &t.state().finals);
 }
 
 fn run(rt: &impl Print, config: Config, work: &mut [u32])
     requires { Room config (length work.old) }
 {
-    let mut s = tour::begin(config, work);
-    clauses_part(rt, &mut s);
+    let mut t = Tour::begin(config, work);
+    clauses_part(rt, &mut t);
     // In each of the phase modes.
-    swing(rt, &mut s, 0);
-    swing(rt, &mut s, 1);
-    swing(rt, &mut s, 2);
-    final_clause(rt, &mut s);
+    swing(rt, &mut t, Phase::Unsaved);
+    swing(rt, &mut t, Phase::Limited);
+    swing(rt, &mut t, Phase::Full);
+    final_clause(rt, &mut t);
 }
 
 fn main(rt: HostRuntime) {
@@ -210,8 +193,8 @@ fn main(rt: HostRuntime) {
         vars: 4,
         room: 6,
         lit_room: 24,
-        mode: 0,
-        phase: 0,
+        mode: Mode::Keep,
+        phase: Phase::Unsaved,
         unit: 0,
     };
     run(&rt, config, &mut work);

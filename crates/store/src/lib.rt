@@ -10,6 +10,7 @@ use clause::Lit;
 use std::marker::Model;
 
 // Clause c goes from starts[c] to starts[c + 1]. `used` literals are in clauses, and `pushed` more are behind them for the next one.
+// Lent slices with lengths, since there is no heap for a Vec of clauses. A clause's number is asked to be the store's where it is used: no type can know it.
 #[derive(Drop)]
 pub struct Store<'a> {
     starts: &'a mut [u32],

@@ -4,59 +4,14 @@ use Prim.Native.String.{String}
 use Rattle.std.proofs.lemmas.Bool.{lt-leb}
 use Rattle.refusal.specs.declared.Rule.TheVariants.{BadKey, BadNumber, LongText}
 use Rattle.text.specs.Limits.{max_cells, max_bytes}
-use Rattle.model.specs.Script.{limits, trailing}
 use Rattle.text.specs.Bytes.{bytes}
-use Rattle.text.specs.Split.{push, pieces, starts}
-use Rattle.text.specs.Number.{digit, digits, decimal, signed, literal, digits_of, shown, shown_literal}
-use Rattle.text.specs.Number as Number
-use Rattle.text.specs.Format.{
-  one_more,
-  literals,
-  record_of,
-  clause_words,
-  clause_cells,
-  solve_cells,
-  value_cells,
-  with_sizes,
-  record_cells,
-  line_cells,
-  fitting,
-  Reading,
-  refused,
-  script,
-  read_lines,
-  read_text,
-}
-use Rattle.text.specs.Answers.{
-  numbered,
-  printed_refusal,
-  item,
-  spaced,
-  listed,
-  verdict,
-  body_key,
-  body,
-  printed_solve,
-  printed_clause,
-  printed_record,
-  answer_cells,
-  kinds,
-  printed_records,
-  printed,
-}
-
--- what a text is read as
-read : List ℕ → Reading
-unfolding push pieces starts Number.fitting digit digits decimal signed literal one_more literals record_of clause_words clause_cells solve_cells value_cells with_sizes record_cells line_cells fitting read_lines read_text
-read text = read_text max_cells text
+use Rattle.text.specs.Format.{Reading, refused, script, read_text}
+use Rattle.text.specs.Answers.{printed_refusal}
+use Rattle.text.specs.Computes.{read, print}
 
 read· : String → Reading
 unfolding read
 read· text = read (bytes text)
-
-print : List ℕ → List ℕ → List ℕ → List ℕ
-unfolding digits_of shown shown_literal numbered item spaced listed verdict body_key body printed_solve printed_clause printed_record answer_cells limits trailing kinds printed_records printed
-print s lines out = printed s lines out
 
 -- ---- document 01's example
 
@@ -268,9 +223,9 @@ unfolding print
 others-printed = refl
 
 refusal_printed : printed_refusal 15 0 ≡ bytes "refused=15\nplace=0\n"
-unfolding print printed_refusal
+unfolding print
 refusal_printed = refl
 
 place-printed : printed_refusal 12 4294967295 ≡ bytes "refused=12\nplace=4294967295\n"
-unfolding print printed_refusal
+unfolding print
 place-printed = refl

@@ -1,5 +1,5 @@
 -- What the code answers of a line and writes of it, and the definitions of Format by their cases.
-use Rattle.std.specs.Prelude.{ℕ, ◌+◌, ◌≤◌, ◌<◌, ◌≡◌, refl, Option, None, Some, Result, Ok, Err, List, [], ◌∷◌, ◌++◌, length, take, drop, set}
+use Rattle.std.specs.Prelude.{ℕ, ◌+◌, ◌≤◌, ◌<◌, ◌≡◌, refl, Option, None, Some, MatchOption, Result, Ok, Err, List, [], ◌∷◌, ◌++◌, length, take, drop, set}
 use Rattle.std.proofs.Common.{sym, ap, ◌∙◌, arith, add-one, append_assoc, append-nil, length-append, length-take-le, take_all}
 use Rattle.std.proofs.Math.Seq.{take-suc-set}
 use Rattle.refusal.specs.declared.Rule.{Rule}
@@ -7,7 +7,7 @@ use Rattle.refusal.specs.declared.Rule.TheVariants.{BadNumber}
 use denote.Ref.{Bor}
 use Rattle.text.specs.Bytes.{blank}
 use Rattle.text.specs.Split.{before}
-use Rattle.text.specs.SplitLaws.{Cut, words_of, words_cut}
+use Rattle.text.specs.SplitLaws.{Cut, words_of, words_cut, pieces_few}
 use Rattle.text.specs.Number.{literal}
 use Rattle.text.specs.Format.{Cells, wrong, cells, one_more, literals, fitting}
 
@@ -55,6 +55,10 @@ pub good_bad : (v : ℕ) (w : List ℕ) (ws : List (List ℕ)) → literal v w �
 unfolding good
 good_bad v w ws e = rw (e, good)
 
+pub good_end : (v : ℕ) {ws : List (List ℕ)} → ws ≡ [] → good v ws ≡ []
+unfolding good
+good_end v e = rw (e, good)
+
 pub good_more : (v : ℕ) (w : List ℕ) (ws : List (List ℕ)) (l : ℕ) → literal v w ≡ Some l → good v (w ∷ ws) ≡ l ∷ good v ws
 unfolding good
 good_more v w ws l e = rw (e, good)
@@ -86,10 +90,16 @@ most_words (Some x) = length x.now + 1
 pub words_end : {left : Option (Bor (List ℕ))} → left ≡ None → words_of left ≡ []
 words_end e = rw e
 
-module _ (v : ℕ) (o : Option (Bor (List ℕ))) {left : Option (Bor (List ℕ))} {line : Bor (List ℕ)} {first : List ℕ} (e : left ≡ Some line) (f : first ≡ before blank line.now) (c : Cut blank line.now first o) where
-  one_less : words_of left ≡ first ∷ words_of o
+pub words_few : (o : Option (Bor (List ℕ))) → length (words_of o) ≤ most_words o
+words_few None = omega arith
+words_few (Some x) = pieces_few blank ([] ∷ []) x.now
+
+-- the first of the words that are left
+module _ (o : Option (Bor (List ℕ))) {left : Option (Bor (List ℕ))} {line : Bor (List ℕ)} {first : List ℕ} (e : left ≡ Some line) (f : first ≡ before blank line.now) (c : Cut blank line.now first o) where
+  pub one_less : words_of left ≡ first ∷ words_of o
   one_less = ap words_of e ∙ words_cut line.now first o f c
 
+module _ (v : ℕ) (o : Option (Bor (List ℕ))) {left : Option (Bor (List ℕ))} {line : Bor (List ℕ)} {first : List ℕ} (e : left ≡ Some line) (f : first ≡ before blank line.now) (c : Cut blank line.now first o) where
   pub shorter : most_words o < most_words left
   shorter = rw e (go o c)
     where
@@ -97,20 +107,37 @@ module _ (v : ℕ) (o : Option (Bor (List ℕ))) {left : Option (Bor (List ℕ))
       go None d = omega arith
       go (Some x) d = omega (arith, ap length d, length-append first (blank ∷ x.now))
 
-  pub count_bad : (n : ℕ) → literal v first ≡ None → counted n (literals v (words_of left)) ≡ Err BadNumber
-  count_bad n q = ap (λ (ws : List (List ℕ)). counted n (literals v ws)) one_less ∙ ap (counted n) (literals_bad v first (words_of o) q)
+-- the first word, and the words behind it
+module _ (v : ℕ) {ws more : List (List ℕ)} {w : List ℕ} (e : ws ≡ w ∷ more) where
+  pub count_bad : (n : ℕ) → literal v w ≡ None → counted n (literals v ws) ≡ Err BadNumber
+  count_bad n q = ap (λ (l : List (List ℕ)). counted n (literals v l)) e ∙ ap (counted n) (literals_bad v w more q)
 
-  pub count_more : (n l : ℕ) → literal v first ≡ Some l → counted n (literals v (words_of left)) ≡ counted (n + 1) (literals v (words_of o))
-  count_more n l q =
-      ap (λ (ws : List (List ℕ)). counted n (literals v ws)) one_less ∙ ap (counted n) (literals_more v first (words_of o) l q) ∙ counted_more n l (literals v (words_of o))
+  pub count_more : (n l : ℕ) → literal v w ≡ Some l → counted n (literals v ws) ≡ counted (n + 1) (literals v more)
+  count_more n l q = ap (λ (k : List (List ℕ)). counted n (literals v k)) e ∙ ap (counted n) (literals_more v w more l q) ∙ counted_more n l (literals v more)
 
-  pub put_bad : literal v first ≡ None → good v (words_of left) ≡ []
-  put_bad q = ap (good v) one_less ∙ good_bad v first (words_of o) q
+  pub put_bad : literal v w ≡ None → good v ws ≡ []
+  put_bad q = ap (good v) e ∙ good_bad v w more q
 
-  pub put_more : (l : ℕ) → literal v first ≡ Some l → good v (words_of left) ≡ l ∷ good v (words_of o)
-  put_more l q = ap (good v) one_less ∙ good_more v first (words_of o) l q
+  pub put_more : (l : ℕ) → literal v w ≡ Some l → good v ws ≡ l ∷ good v more
+  put_more l q = ap (good v) e ∙ good_more v w more l q
 
-pub count_end : (v n : ℕ) {left : Option (Bor (List ℕ))} → left ≡ None → Ok n ≡ counted n (literals v (words_of left))
+-- the next word, and its literal
+module _ (v : ℕ) (ws more : List (List ℕ)) (r : Option (Bor (List ℕ))) (q : Option ℕ) (s : MatchOption r ((ws ≡ []) × (more ≡ [])) (λ w. ws ≡ w.now ∷ more)) (e : MatchOption r (q ≡ None) (λ w. q ≡ literal v w.now)) where
+  pub next_bad : q ≡ None → good v ws ≡ []
+  next_bad n = go r s e
+    where
+      go : (o : Option (Bor (List ℕ))) → MatchOption o ((ws ≡ []) × (more ≡ [])) (λ w. ws ≡ w.now ∷ more) → MatchOption o (q ≡ None) (λ w. q ≡ literal v w.now) → good v ws ≡ []
+      go None a b = good_end v a.0
+      go (Some w) a b = put_bad v a (sym b ∙ n)
+
+  pub next_good : (l : ℕ) → q ≡ Some l → good v ws ≡ l ∷ good v more
+  next_good l n = go r s e
+    where
+      go : (o : Option (Bor (List ℕ))) → MatchOption o ((ws ≡ []) × (more ≡ [])) (λ w. ws ≡ w.now ∷ more) → MatchOption o (q ≡ None) (λ w. q ≡ literal v w.now) → good v ws ≡ l ∷ good v more
+      go None a b = cc
+      go (Some w) a b = put_more v a l (sym b ∙ n)
+
+pub count_end : (v n : ℕ) {ws : List (List ℕ)} → ws ≡ [] → Ok n ≡ counted n (literals v ws)
 unfolding literals
 count_end v n e = rw (e, literals) (ap Ok (omega arith))
 

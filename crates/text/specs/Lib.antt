@@ -1,5 +1,5 @@
 -- The text of `loadsat` (document 01, "The bench program"), as functions that compute: what a text is read as, and what is printed. A reader has to
--- believe Limits, Bytes, Split, Number, Format and Answers; Examples tries them.
+-- believe Limits, Bytes, Split, Number, Format and Answers, and of the iterators Pieces; Examples tries them.
 --
 -- How to read it. A byte is a number; `bytes ".."` is the text in quotes as a list of bytes. `elim e [ | p ↦ a | q ↦ b ]` is a match on e. `x ∷ xs` is
 -- a list with x first, `xs ++ ys` two lists in a row. `get_or xs i d` is xs[i], and d past the end. `take n xs` is the beginning, `drop n xs` the
@@ -12,6 +12,7 @@ pub mod Kinds
 pub mod Format
 pub mod Answers
 pub mod SplitLaws
+pub mod Pieces
 pub mod NumberLaws
 pub mod FormatLaws
 pub mod PutLaws
@@ -20,4 +21,5 @@ pub mod WriteLaws
 pub mod Prints
 pub mod PrintLaws
 pub mod PrintBound
+pub mod Computes
 pub mod Examples

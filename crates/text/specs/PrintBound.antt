@@ -5,9 +5,14 @@ use Rattle.std.proofs.Math.Decide.{dec_lt, ℕ_discrete}
 use Rattle.std.proofs.Math.ListN.{get_or-eq_default}
 use Rattle.model.specs.Limits.{header_cells}
 use Rattle.model.specs.Script.{trailing}
+use Rattle.refusal.specs.declared.Rule.{Rule}
+use Rattle.refusal.specs.declared.Rule.TheVariants.{ShortHeader}
+use Rattle.refusal.specs.declared.Refusal.{Refusal}
+use Rattle.refusal.specs.Number.{number}
 use Rattle.text.specs.Bytes.{bytes, newline}
-use Rattle.text.specs.Limits.{max_number, max_cells, max_bytes}
+use Rattle.text.specs.Limits.{max_number, max_cells, max_bytes, first_record}
 use Rattle.text.specs.Number.{shown, shown_literal}
+use Rattle.text.specs.Format.{lines_from, record_lines}
 use Rattle.text.specs.Answers.{
   numbered,
   printed_refusal,
@@ -184,6 +189,17 @@ unfolding printed
 printed-length script lines out sl s h k =
     omega (arith, records-length (kinds header_cells script) lines out sl s (omega arith), kinds-length header_cells script)
 
+-- the lines of records are so few that each has its number
+lines_under : (line n k m : ℕ) → line + n ≤ m → get_or (lines_from line n) k 0 ≤ m
+unfolding lines_from
+lines_under line zero k m h = omega arith
+lines_under line (suc n) zero m h = omega arith
+lines_under line (suc n) (suc k) m h = lines_under (line + 1) n k m (omega arith)
+
+pub lines_small : (n : ℕ) → n + first_record ≤ max_number → Small (record_lines n)
+unfolding Small
+lines_small n h k = lines_under first_record n k max_number (omega arith)
+
 -- a number of 64 bits has 20 digits at most
 pub refusal_length : (number place : ℕ) → number < 10 ^ 20 → place < 10 ^ 20 → length (printed_refusal number place) ≤ max_bytes
 unfolding printed_refusal numbered
@@ -200,3 +216,10 @@ refusal_length number place h k =
       shown-length 19 number h,
       shown-length 19 place k,
     )
+
+number_most : (rule : Rule) → number rule ≤ 20
+number_most ShortHeader = omega arith
+number_most _ = omega arith
+
+pub refused_length : (refusal : Refusal) → refusal.place < 10 ^ 20 → length (printed_refusal (number refusal.rule) refusal.place) ≤ max_bytes
+refused_length refusal h = refusal_length (number refusal.rule) refusal.place (omega (arith, number_most refusal.rule)) h

@@ -1,9 +1,9 @@
 -- The definitions of Answers by their cases, as the code meets them.
-use Rattle.std.specs.Prelude.{ℕ, zero, suc, ◌+◌, ◌-◌, ◌*◌, ◌/◌, ◌%◌, ◌≤◌, ◌<◌, min, ◌≡◌, refl, List, [], ◌∷◌, ◌++◌, length, get_or, take, drop}
+use Rattle.std.specs.Prelude.{ℕ, zero, suc, ◌+◌, ◌-◌, ◌*◌, ◌/◌, ◌%◌, ◌≤◌, ◌<◌, min, ◌≡◌, refl, true, false, Option, None, Some, Result, Ok, Err, List, [], ◌∷◌, ◌++◌, length, get_or, take, drop}
 use Rattle.std.proofs.Common.{sym, ap, ◌∙◌, arith, add-one, length-drop, drop_of_length-le, drop-cons, take_all, eq-eqb, ne_eqb}
 use Rattle.std.proofs.Math.Decide.{dec_lt}
 use Rattle.model.specs.Limits.{header_cells}
-use Rattle.model.specs.Script.{solve_kind, limits, trailing}
+use Rattle.model.specs.Script.{solve_kind, known, limits, trailing}
 use Rattle.text.specs.Bytes.{bytes}
 use Rattle.text.specs.Number.{shown, shown_literal}
 use Rattle.text.specs.Answers.{
@@ -22,10 +22,14 @@ use Rattle.text.specs.Answers.{
   printed_records,
   printed,
 }
-use Rattle.text.specs.declared.kinds.Kind.{Kind}
-use Rattle.text.specs.declared.kinds.Verdict.{Verdict}
-use Rattle.text.specs.declared.kinds.Verdict.TheVariants.{True, False, Undef, Other}
-use Rattle.text.specs.Kinds.{number, kind_of, verdict_of, cell_of}
+use Rattle.script.specs.declared.Kind.{Kind}
+use Rattle.cells.specs.declared.Verdict.{Verdict}
+use Rattle.cells.specs.declared.Verdict.TheVariants.{True, False, Undef}
+use Rattle.script.specs.declared.Kind.TheVariants.{Clause, Solve}
+use Rattle.script.specs.Kinds.{IsKindOf, cell_of as kind_cell}
+use Rattle.refusal.specs.declared.Rule.{Rule}
+use Rattle.std.specs.Result.{result_unwrap_or}
+use Rattle.text.specs.Kinds.{kind_of, verdict_of, cell_of}
 
 -- ---- a literal
 
@@ -104,18 +108,18 @@ take_clipped n l = go (dec_lt n (length l))
     go (yes h) = let e : min (length l) n ≡ n = omega arith in rw e
     go (no h) = take_all (min (length l) n) l (omega arith) ∙ sym (take_all n l (omega arith))
 
-pub verdict_other : (v : Verdict) → (v ≡ True → ⊥) → (v ≡ False → ⊥) → verdict (cell_of v) ≡ bytes "answer=UNDEF\n"
+pub verdict_other : (v : Option Verdict) → (v ≡ Some True → ⊥) → (v ≡ Some False → ⊥) → verdict (cell_of v) ≡ bytes "answer=UNDEF\n"
 unfolding verdict
-verdict_other True e f = absurd (e refl)
-verdict_other False e f = absurd (f refl)
-verdict_other Undef e f = refl
-verdict_other Other e f = refl
+verdict_other (Some True) e f = absurd (e refl)
+verdict_other (Some False) e f = absurd (f refl)
+verdict_other (Some Undef) e f = refl
+verdict_other None e f = refl
 
-pub cell_other : (v : Verdict) → (v ≡ Undef → ⊥) → cell_of v ≡ 2 → ⊥
-cell_other True e f = omega (arith, f)
-cell_other False e f = omega (arith, f)
-cell_other Undef e f = e refl
-cell_other Other e f = omega (arith, f)
+pub cell_other : (v : Option Verdict) → (v ≡ Some Undef → ⊥) → cell_of v ≡ 2 → ⊥
+cell_other (Some True) e f = omega (arith, f)
+cell_other (Some False) e f = omega (arith, f)
+cell_other (Some Undef) e f = e refl
+cell_other None e f = omega (arith, f)
 
 -- a cell stands for the same whether it is 3 or another number above
 pub verdict_cell : (a : ℕ) → verdict (cell_of (verdict_of a)) ≡ verdict a
@@ -142,7 +146,7 @@ body_cell (suc (suc (suc a))) xs =
     ∙ ap (λ (l : List ℕ). l ++ listed (suc (suc (suc a))) 0 xs ++ 10 ∷ []) (key_final 3 (omega arith) ∙ sym (key_final (suc (suc (suc a))) (omega arith)))
     ∙ sym (body-listed (suc (suc (suc a))) xs (omega arith))
 
-pub solve_printed : (o : List ℕ) (v : Verdict) (n : ℕ) (xs : List ℕ) → v ≡ verdict_of (get_or o 0 0) → n ≡ get_or o 1 0 → xs ≡ take (get_or o 2 0) (drop 3 o)
+pub solve_printed : (o : List ℕ) (v : Option Verdict) (n : ℕ) (xs : List ℕ) → v ≡ verdict_of (get_or o 0 0) → n ≡ get_or o 1 0 → xs ≡ take (get_or o 2 0) (drop 3 o)
     → verdict (cell_of v) ++ numbered (bytes "conflicts=") n ++ body (cell_of v) xs ≡ printed_solve o
 unfolding printed_solve
 solve_printed o v n xs e f g = rw (e, f, g, verdict_cell (get_or o 0 0), body_cell (get_or o 0 0) (take (get_or o 2 0) (drop 3 o)))
@@ -181,23 +185,33 @@ pub trailing-clause : (kind : ℕ) → (kind ≡ solve_kind → ⊥) → trailin
 unfolding trailing limits
 trailing-clause kind e = rw (ne_eqb kind solve_kind e, limits)
 
+-- the kind of a number, and a clause where it is no kind's
+pub kind_read : (k : ℕ) (r : Result Kind Rule) → IsKindOf k r → result_unwrap_or r Clause ≡ kind_of k
+unfolding known
+kind_read k (Ok Clause) e = rw (← e)
+kind_read k (Ok Solve) e = rw (← e)
+kind_read zero (Err rule) e = refl
+kind_read (suc zero) (Err rule) e = refl
+kind_read (suc (suc zero)) (Err rule) e = let z : true ≡ false = e.1 in cc
+kind_read (suc (suc (suc k))) (Err rule) e = refl
+
 -- a number means the same as that of the kind that it stands for
 
-pub record_kind : (k line : ℕ) (out : List ℕ) → printed_record (number (kind_of k)) line out ≡ printed_record k line out
+pub record_kind : (k line : ℕ) (out : List ℕ) → printed_record (kind_cell (kind_of k)) line out ≡ printed_record k line out
 unfolding printed_record
 record_kind zero line out = refl
 record_kind (suc zero) line out = refl
 record_kind (suc (suc zero)) line out = refl
 record_kind (suc (suc (suc k))) line out = record_clause 1 line out (omega arith) ∙ sym (record_clause (suc (suc (suc k))) line out (omega arith))
 
-pub cells_kind : (k : ℕ) (out : List ℕ) → answer_cells (number (kind_of k)) out ≡ answer_cells k out
+pub cells_kind : (k : ℕ) (out : List ℕ) → answer_cells (kind_cell (kind_of k)) out ≡ answer_cells k out
 unfolding answer_cells
 cells_kind zero out = refl
 cells_kind (suc zero) out = refl
 cells_kind (suc (suc zero)) out = refl
 cells_kind (suc (suc (suc k))) out = cells-clause 1 out (omega arith) ∙ sym (cells-clause (suc (suc (suc k))) out (omega arith))
 
-trailing_kind : (k : ℕ) → trailing (number (kind_of k)) ≡ trailing k
+trailing_kind : (k : ℕ) → trailing (kind_cell (kind_of k)) ≡ trailing k
 unfolding trailing limits
 trailing_kind zero = refl
 trailing_kind (suc zero) = refl
@@ -217,10 +231,10 @@ unfolding kinds printed_records
 records_none [] lines out e = refl
 records_none (x ∷ xs) lines out e = absurd (omega (arith, e))
 
-pub records_more : (k : ℕ) (tail lines out : List ℕ) (line n m : ℕ) → line ≡ get_or lines 0 0 → n ≡ 1 + get_or tail 0 0 + trailing (number (kind_of k))
-    → m ≡ answer_cells (number (kind_of k)) out
+pub records_more : (k : ℕ) (tail lines out : List ℕ) (line n m : ℕ) → line ≡ get_or lines 0 0 → n ≡ 1 + get_or tail 0 0 + trailing (kind_cell (kind_of k))
+    → m ≡ answer_cells (kind_cell (kind_of k)) out
     → printed_records (kinds 0 (k ∷ tail)) lines out
-    ≡ printed_record (number (kind_of k)) line out ++ printed_records (kinds 0 (drop n tail)) (drop 1 lines) (drop m out)
+    ≡ printed_record (kind_cell (kind_of k)) line out ++ printed_records (kinds 0 (drop n tail)) (drop 1 lines) (drop m out)
 unfolding kinds printed_records
 records_more k tail lines out line n m e f g =
     let n' : suc (get_or tail 0 0 + trailing k) ≡ n = omega (arith, trailing_kind k) in
@@ -234,9 +248,9 @@ rest_taken xs = take_all (length xs - 1) (drop 1 xs) (omega (arith, length-drop 
 
 -- the same, where the records that are left are named
 pub records_step : (records lines out : List ℕ) {tail records' lines' out' : List ℕ} {kind : Kind} {line n m : ℕ} → 1 ≤ length records → tail ≡ drop 1 records
-    → kind ≡ kind_of (get_or records 0 0) → line ≡ get_or lines 0 0 → n ≡ 1 + get_or tail 0 0 + trailing (number kind) → m ≡ answer_cells (number kind) out
+    → kind ≡ kind_of (get_or records 0 0) → line ≡ get_or lines 0 0 → n ≡ 1 + get_or tail 0 0 + trailing (kind_cell kind) → m ≡ answer_cells (kind_cell kind) out
     → records' ≡ drop n tail → lines' ≡ drop 1 lines → out' ≡ drop m out
-    → printed_records (kinds 0 records) lines out ≡ printed_record (number kind) line out ++ printed_records (kinds 0 records') lines' out'
+    → printed_records (kinds 0 records) lines out ≡ printed_record (kind_cell kind) line out ++ printed_records (kinds 0 records') lines' out'
 records_step [] lines out h a b c d e f g i = absurd (omega arith)
 records_step (k ∷ ks) lines out {line = line} {n = n} {m = m} h a b c d e f g i =
     rw (f, g, i, a, b) (records_more k ks lines out line n m c (rw (a, b) at d) (rw b at e))

@@ -1,5 +1,5 @@
 -- A text read line by line, as the code goes through it.
-use Rattle.std.specs.Prelude.{ℕ, zero, suc, ◌+◌, ◌-◌, ◌≤◌, ◌<◌, ◌≡◌, refl, Bool, true, false, Option, None, Some, Result, Ok, Err, List, [], ◌∷◌, ◌++◌, length, get_or, take, drop, eqb, leb}
+use Rattle.std.specs.Prelude.{ℕ, zero, suc, ◌+◌, ◌-◌, ◌≤◌, ◌<◌, ◌≡◌, refl, Bool, true, false, Option, None, Some, Result, Ok, Err, MatchResult, List, [], ◌∷◌, ◌++◌, length, get_or, take, drop, eqb, leb}
 use Rattle.std.proofs.Common.{sym, ap, subst, ◌∙◌, append_assoc, append-nil, arith, length-append, length-drop, take-append-drop, length-take-le, take_at, drop_at, get_or-take, drop-drop, le-leb, lt-ltb, le-ltb, leb-true}
 use Rattle.std.proofs.Math.Decide.{dec_lt}
 use Rattle.std.proofs.Math.ListN.{get_or-append}
@@ -9,7 +9,7 @@ use Rattle.refusal.specs.declared.Rule.TheVariants.{BadKey, BadNumber, LongText}
 use Rattle.refusal.specs.declared.Refusal.{Refusal}
 use Rattle.text.specs.Limits.{max_cells, max_bytes}
 use Rattle.text.specs.Bytes.{bytes}
-use Rattle.text.specs.Split.{words, starts, lines, pieces}
+use Rattle.text.specs.Split.{words, starts, lines}
 use Rattle.text.specs.Number.{decimal}
 use Rattle.text.specs.Format.{
   Cells,
@@ -264,6 +264,14 @@ module _ {room n used vars : ℕ} {now first l : List ℕ} {ls : List (List ℕ)
       let s : next ≡ now = becomes [] (ap listed w) (omega (arith, q.low)) ∙ ap (λ (t : List ℕ). t ++ drop (used + 0) now) (append-nil (take used now)) ∙ ap (λ (i : ℕ). take used now ++ drop i now) z ∙ take-append-drop used now in
       rw s (refusal q k (turn_wrong room n k (take used now) l ls (as_defined ∙ w)))
 
+  -- the same of a refusal that has the rule, and the place of the line
+  pub line_refused_as : (o : Result ℕ Refusal) (f : Refusal) → MatchResult r (λ m. o ≡ Ok m) (λ k. o ≡ Err record { rule = k; place = n }) → o ≡ Err f → Read whole first next (Err f)
+  line_refused_as o f d v = go r refl d
+    where
+      go : (t : Result ℕ Rule) → r ≡ t → MatchResult t (λ m. o ≡ Ok m) (λ k. o ≡ Err record { rule = k; place = n }) → Read whole first next (Err f)
+      go (Ok m) g w = absurd (cc)
+      go (Err k) g w = let z : f ≡ record { rule = k; place = n } = cc in rw z (line_refused k g)
+
   record Turned (m : ℕ) (xs : List ℕ) : Type 0 where
     pub fits : x ≡ cells xs
     pub count : m ≡ length xs
@@ -327,12 +335,6 @@ module _ {room n used vars : ℕ} {now first l : List ℕ} {ls : List (List ℕ)
 pub reached_as : {room n used vars : ℕ} {now first : List ℕ} {ls ms : List (List ℕ)} {whole : Reading} → Reached room n used vars now first ls whole → ls ≡ ms
     → Reached room n used vars now first ms whole
 reached_as {room} {n} {used} {vars} {now} {first} {whole = whole} q e = subst (λ (ks : List (List ℕ)). Reached room n used vars now first ks whole) e q
-
-pub at_end : {room n used vars : ℕ} {now first : List ℕ} (text : List ℕ) {whole : Reading} → Reached room n used vars now first (lines text) whole → length text ≡ 0
-    → Reached room n used vars now first [] whole
-unfolding pieces
-at_end [] q e = q
-at_end (b ∷ bs) q e = absurd (omega arith)
 
 -- ---- the whole text
 

@@ -110,6 +110,21 @@ words_cut l first o e c = words_step l ∙ go o (rest_of blank ([] ∷ []) l fir
     go None q = rw (q, e)
     go (Some x) q = rw (q, e)
 
+-- a cut takes a byte, so the pieces are no more than the bytes and the pieces at the end
+push_few : (b : ℕ) (ps : List (List ℕ)) → length (push b ps) ≤ suc (length ps)
+unfolding push
+push_few b [] = omega arith
+push_few b (p ∷ ps) = omega arith
+
+pub pieces_few : (s : ℕ) (last : List (List ℕ)) (l : List ℕ) → length (pieces s last l) ≤ length l + length last
+unfolding pieces
+pieces_few s last [] = omega arith
+pieces_few s last (b ∷ bs) = go (eqb b s) refl (pieces_few s last bs)
+  where
+    go : (t : Bool) → eqb b s ≡ t → length (pieces s last bs) ≤ length bs + length last → length (pieces s last (b ∷ bs)) ≤ length (b ∷ bs) + length last
+    go true e h = rw (e, pieces) (omega (arith, h))
+    go false e h = rw (e, pieces) (omega (arith, h, push_few b (pieces s last bs)))
+
 -- the lines of what is left of a text
 abbrev pub text_of : Option (Bor (List ℕ)) → List ℕ
 text_of None = []

@@ -3,14 +3,18 @@
 
 mod kinds;
 mod number;
+mod pieces;
 mod printer;
 mod printing;
 mod program;
 mod reading;
 
-pub use kinds::{Kind, Verdict};
-pub use number::{Variables, cut, decimal};
+pub use cells::Verdict;
+pub use kinds::kind_of;
+pub use number::{Variables, decimal};
+pub use pieces::{Lines, Words, cut};
 pub use printer::Printer;
-pub use printing::{number_lines, print, print_refusal};
+pub use printing::{number_lines, print, print_refusal, print_refused};
 pub use program::{complain, filled};
 pub use reading::{Script, read};
+pub use script::Kind;

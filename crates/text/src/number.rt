@@ -1,19 +1,7 @@
 // The words of a line, as numbers and literals.
-ghost use Rattle.std.specs.Prelude.{◌≡◌, ◌≤◌, ◌∷◌, ◌++◌, MatchOption};
+ghost use Rattle.std.specs.Prelude.{◌≡◌, ◌≤◌};
 ghost use Rattle.std.specs.Int.{from_bool};
-ghost use Rattle.text.specs.Split.{before};
 ghost use Rattle.text.specs.Number.{digit, decimal, signed, literal};
-
-// What stands before the first `sought`, and what behind it; there is nothing behind it where it is not found.
-pub fn cut(s: &[u8], sought: u8) -> (&[u8], Option<&[u8]>)
-    ensures first { result.0.now ≡ before sought s.now }
-    ensures rest { MatchOption result.1 (result.0.now ≡ s.now) (λ x. s.now ≡ result.0.now ++ sought ∷ x.now) }
-{
-    match s.iter().position(|b| *b == sought) {
-        Some(i) => (&s[..i], Some(&s[i + 1..])),
-        None => (s, None),
-    }
-}
 
 // The value with one digit more.
 #[tactic(auto, unfolding(crate::specs::Number::digit, crate::specs::Number::fitting))]
@@ -26,7 +14,7 @@ fn digit(value: u32, b: u8) -> Option<u32>
     value.checked_mul(10)?.checked_add(u32::from(b - b'0'))
 }
 
-// A word of digits as a number.
+// A word of digits as a number. By hand: `parse` is of a str and takes `+1`, which is no number here.
 #[tactic(auto, unfolding(crate::specs::Number::decimal, crate::specs::Number::digits))]
 pub fn decimal(word: &[u8]) -> Option<u32>
     ensures { result ≡ decimal word.now }
@@ -49,8 +37,8 @@ pub struct Variables {
 }
 
 impl Variables {
-    #[tactic(auto, unfolding(crate::specs::Number::signed))]
     // The literal of a number from 1 to `count`: 2(n - 1), and one more if it is negated.
+    #[tactic(auto, unfolding(crate::specs::Number::signed))]
     fn signed(self, n: Option<u32>, negated: bool) -> Option<u32>
         ensures { result ≡ signed self.count (from_bool negated) n }
     {

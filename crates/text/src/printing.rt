@@ -3,14 +3,19 @@ ghost use Rattle.std.specs.Prelude.{◌≡◌, [], ◌∷◌, ◌+◌, ◌*◌, 
 ghost use Rattle.text.specs.Number.{shown, shown_literal};
 ghost use Rattle.text.specs.Limits.{max_cells};
 ghost use Rattle.text.specs.Format.{record_lines};
-ghost use Rattle.text.specs.Kinds.{number, cell_of};
+ghost use Rattle.refusal.specs.Number.{number};
+ghost use Rattle.script.specs.Kinds.{cell_of as kind_cell};
+ghost use Rattle.text.specs.Kinds.{cell_of};
 ghost use Rattle.model.specs.Script.{trailing};
 ghost use Rattle.text.specs.Answers.{numbered, printed_refusal, item, spaced, listed, verdict, body_key, body, printed_solve, printed_clause, printed_record, answer_cells, printed};
 ghost use Rattle.text.specs.WriteLaws.{Written};
 ghost use Rattle.text.specs.Prints.{Prints};
 
-use crate::kinds::{Kind, Verdict};
+use crate::kinds::kind_of;
 use crate::printer::Printer;
+use cells::Verdict;
+use refusal::Refusal;
+use script::{HEADER_CELLS, Kind};
 
 // What stands behind the first n elements.
 fn behind<T>(s: &[T], n: usize) -> &[T]
@@ -21,13 +26,13 @@ fn behind<T>(s: &[T], n: usize) -> &[T]
 
 // The literal that cell i of a model or a final clause stands for.
 #[tactic(auto, unfolding(crate::specs::Answers::item))]
-fn item(verdict: Verdict, i: usize, x: u32) -> u64
+fn item(verdict: Option<Verdict>, i: usize, x: u32) -> u64
     requires { i < 2 ^ 62 }
     ensures { result ≡ item (cell_of verdict) i x }
 {
     match verdict {
-        Verdict::True if x == 0 => 2 * i as u64,
-        Verdict::True => 2 * i as u64 + 1,
+        Some(Verdict::True) if x == 0 => 2 * i as u64,
+        Some(Verdict::True) => 2 * i as u64 + 1,
         _ => u64::from(x),
     }
 }
@@ -50,7 +55,7 @@ impl<'a> Printer<'a> {
         self.at = end;
     }
 
-    // A number in decimal.
+    // A number in decimal. By hand: `write!` promises its text only where it gives Ok, and what a `Printer` prints is promised always.
     pub fn number(&mut self, n: u64)
         ensures { Prints self.old self.new (shown n) }
     {
@@ -90,7 +95,7 @@ impl<'a> Printer<'a> {
     }
 
     // The cells of a model or a final clause as literals.
-    fn items(&mut self, verdict: Verdict, cells: &[u32])
+    fn items(&mut self, verdict: Option<Verdict>, cells: &[u32])
         ensures { Prints self.old self.new (listed (cell_of verdict) 0 cells.now) }
     {
         for (i, x) in cells.iter().enumerate() {
@@ -99,31 +104,31 @@ impl<'a> Printer<'a> {
     }
 
     #[tactic(auto, unfolding(crate::specs::Answers::verdict))]
-    pub fn verdict(&mut self, answer: Verdict)
+    pub fn verdict(&mut self, answer: Option<Verdict>)
         ensures { Prints self.old self.new (verdict (cell_of answer)) }
     {
         match answer {
-            Verdict::True => self.bytes(b"answer=TRUE\n"),
-            Verdict::False => self.bytes(b"answer=FALSE\n"),
+            Some(Verdict::True) => self.bytes(b"answer=TRUE\n"),
+            Some(Verdict::False) => self.bytes(b"answer=FALSE\n"),
             _ => self.bytes(b"answer=UNDEF\n"),
         }
     }
 
     #[tactic(auto, unfolding(crate::specs::Answers::body_key))]
-    fn body_key(&mut self, verdict: Verdict)
+    fn body_key(&mut self, verdict: Option<Verdict>)
         ensures { Prints self.old self.new (body_key (cell_of verdict)) }
     {
         match verdict {
-            Verdict::True => self.bytes(b"model="),
+            Some(Verdict::True) => self.bytes(b"model="),
             _ => self.bytes(b"final="),
         }
     }
 
     // The model, the final clause, or the cause.
-    fn body(&mut self, verdict: Verdict, cells: &[u32])
+    fn body(&mut self, verdict: Option<Verdict>, cells: &[u32])
         ensures { Prints self.old self.new (body (cell_of verdict) cells.now) }
     {
-        if verdict == Verdict::Undef {
+        if verdict == Some(Verdict::Undef) {
             let cause = cells.first().copied().unwrap_or(0);
             return self.numbered(b"cause=", u64::from(cause));
         }
@@ -136,7 +141,7 @@ impl<'a> Printer<'a> {
     fn solve(&mut self, out: &[u32])
         ensures { Prints self.old self.new (printed_solve out.now) }
     {
-        let verdict = Verdict::from(out.first().copied().unwrap_or(0));
+        let verdict = Verdict::from_cell(out.first().copied().unwrap_or(0));
         let conflicts = out.get(1).copied().unwrap_or(0);
         let count = out.get(2).copied().unwrap_or(0);
         let cells = behind(out, 3);
@@ -146,26 +151,27 @@ impl<'a> Printer<'a> {
         self.body(verdict, &cells[..n]);
     }
 
-    // A clause, unless it is taken: where its answer is 2.
-    fn clause(&mut self, line: u32, answer: u32)
-        ensures { Prints self.old self.new (printed_clause line answer) }
+    // A clause, unless it is taken: where the first cell of `out`, its answer, is 2. A number, since the enum of these answers
+    // is of crate intake, and this crate does not stand on the engine.
+    fn clause(&mut self, line: u32, out: &[u32])
+        ensures { Prints self.old self.new (printed_clause line (get_or out.now 0 0)) }
     {
-        if answer == 2 {
+        if out.first() == Some(&2) {
             self.numbered(b"untaken=", u64::from(line));
         }
     }
 
     fn record(&mut self, kind: Kind, line: u32, out: &[u32])
-        ensures { Prints self.old self.new (printed_record (number kind) line out.now) }
+        ensures { Prints self.old self.new (printed_record (kind_cell kind) line out.now) }
     {
         match kind {
-            Kind::Clause => self.clause(line, out.first().copied().unwrap_or(0)),
+            Kind::Clause => self.clause(line, out),
             Kind::Solve => self.solve(out),
         }
     }
 }
 
-// A refusal; the result is how many bytes, at most as many as the slice has.
+// A refusal by its number, which may be any: a `Rule` has fewer, so `print_refused` stands beside it. The result is how many bytes, at most as many as the slice has.
 pub fn print_refusal(number: u32, place: u64, text: &mut [u8]) -> usize
     ensures { Written text.old 0 (printed_refusal number place) text.new result }
 {
@@ -175,10 +181,17 @@ pub fn print_refusal(number: u32, place: u64, text: &mut [u8]) -> usize
     printer.at
 }
 
+// The same of a refusal by its rule.
+pub fn print_refused(refusal: Refusal, text: &mut [u8]) -> usize
+    ensures { Written text.old 0 (printed_refusal (number refusal.rule) refusal.place) text.new result }
+{
+    print_refusal(refusal.rule.number(), refusal.place, text)
+}
+
 // How many cells of `out` a record's answer has.
 #[tactic(auto, unfolding(crate::specs::Answers::answer_cells))]
 fn answer_cells(kind: Kind, out: &[u32]) -> usize
-    ensures { result ≡ answer_cells (number kind) out.now }
+    ensures { result ≡ answer_cells (kind_cell kind) out.now }
 {
     match kind {
         Kind::Clause => 1,
@@ -186,17 +199,17 @@ fn answer_cells(kind: Kind, out: &[u32]) -> usize
     }
 }
 
-// Prints the answers that `out` holds for the records of a script, each of which has its line in `lines`. The result is how many bytes, at most as
-// many as the slice has.
+// Prints the answers that `out` holds for the records of a script, each of which has its line in `lines`, since a script need not come from a text.
+// The result is how many bytes, at most as many as the slice has.
 pub fn print(script: &[u32], lines: &[u32], out: &[u32], text: &mut [u8]) -> usize
     ensures { Written text.old 0 (printed script.now lines.now out.now) text.new result }
 {
     let mut printer = Printer::new(text);
-    let mut records = behind(script, 6);
+    let mut records = behind(script, HEADER_CELLS);
     let mut lines = lines;
     let mut out = out;
     while let [first, tail @ ..] = records {
-        let kind = Kind::from(*first);
+        let kind = kind_of(*first);
         printer.record(kind, lines.first().copied().unwrap_or(0), out);
         records = behind(tail, cells_behind(kind, tail));
         lines = behind(lines, 1);
@@ -205,9 +218,9 @@ pub fn print(script: &[u32], lines: &[u32], out: &[u32], text: &mut [u8]) -> usi
     printer.at
 }
 
-// How many cells a record has behind its first.
+// How many cells a record has behind its first. `Record::cells` of crate script is of a record that holds; here the script may be any cells.
 fn cells_behind(kind: Kind, tail: &[u32]) -> usize
-    ensures { result ≡ 1 + get_or tail.now 0 0 + trailing (number kind) }
+    ensures { result ≡ 1 + get_or tail.now 0 0 + trailing (kind_cell kind) }
 {
     let count = tail.first().copied().unwrap_or(0) as usize;
     match kind {

@@ -8,7 +8,7 @@ pub fn filled<T: Copy, const N: usize>(value: T) -> [T; N]
     [value; N]
 }
 
-// Says on standard error what went wrong; if that cannot be written either, nobody is told.
+// Says on standard error what went wrong; if that cannot be written either, nobody is told. No clause: what standard error gets no contract knows.
 pub fn complain(rt: &impl Eprint, what: &str) {
     let _ = rt.eprint(what);
 }

@@ -1,18 +1,20 @@
 // A text, read as a script. A function of a line writes its cells first into the slice that it is lent, where they fit, and gives how many they are.
+// There is no heap for a Vec, and the length of what is left is asked, since no type says how long a lent slice is.
 ghost use Rattle.std.specs.Prelude.{◌≡◌, [], ◌∷◌, ◌+◌, ◌≤◌, ◌<◌, min, length, take, drop, OnOk};
 ghost use Rattle.text.specs.Number.{decimal, literal};
 ghost use Rattle.text.specs.Bytes.{bytes};
 ghost use Rattle.text.specs.Format.{clause_words, cells, literals, record_of, value_cells, with_sizes, record_cells, line_cells, read_text};
-ghost use Rattle.text.specs.Kinds.{number};
-ghost use Rattle.text.specs.SplitLaws.{words_of};
+ghost use Rattle.script.specs.Kinds.{cell_of};
+ghost use Rattle.text.specs.Pieces.{words_left};
 ghost use Rattle.text.specs.FormatLaws.{counted, good, Puts};
 ghost use Rattle.text.specs.PutLaws.{field_of};
 ghost use Rattle.text.specs.ReadLaws.{Read};
 ghost use Rattle.text.specs.Limits.{max_cells};
 
-use crate::kinds::Kind;
-use crate::number::{Variables, cut, decimal};
+use crate::number::{Variables, decimal};
+use crate::pieces::{Lines, Words, cut};
 use refusal::{Refusal, Rule};
+use script::Kind;
 
 const MAX_BYTES: usize = 1048576;
 
@@ -20,7 +22,7 @@ const MAX_CELLS: usize = 16384;
 
 const MAX_VARS: u32 = 128;
 
-// A text that was read: how many cells and records its script has.
+// A text that was read: how many cells and records its script has. Counts, since the cells are the caller's slice.
 #[derive(Clone, Copy, Debug, PartialEq, Eq)]
 pub struct Script {
     pub cells: usize,
@@ -28,57 +30,51 @@ pub struct Script {
 }
 
 // How many literals the words are.
-fn count_literals(words: Option<&[u8]>, vars: Variables) -> Result<usize, Rule>
-    ensures { result ≡ counted 0 (literals vars.count (words_of words.entry)) }
+fn count_literals(words: Words, vars: Variables) -> Result<usize, Rule>
+    ensures { result ≡ counted 0 (literals vars.count (words_left words.entry)) }
 {
-    let mut left = words;
     let mut count = 0;
-    while let Some(line) = left {
-        let (word, behind) = cut(line, b' ');
+    for word in words {
         vars.literal(word).ok_or(Rule::BadNumber)?;
         count += 1;
-        left = behind;
     }
     Ok(count)
 }
 
 // Stores the literals, up to the first word that is none.
-fn put_literals(words: Option<&[u8]>, vars: Variables, to: &mut [u32])
-    requires { length (good vars.count (words_of words)) ≡ length to.old }
-    ensures { to.new ≡ good vars.count (words_of words.entry) }
+fn put_literals(words: Words, vars: Variables, to: &mut [u32])
+    requires { length (good vars.count (words_left words)) ≡ length to.old }
+    ensures { to.new ≡ good vars.count (words_left words.entry) }
 {
-    let mut left = words;
+    let mut words = words;
+    // By cells: of what a `zip` over `iter_mut` writes the proof learns nothing.
     for cell in to {
-        let Some(line) = left else {
-            return;
-        };
-        let (word, behind) = cut(line, b' ');
-        let Some(literal) = vars.literal(word) else {
+        let Some(literal) = words.next().and_then(|word| vars.literal(word)) else {
             return;
         };
         *cell = literal;
-        left = behind;
     }
 }
 
-// A record's kind, its count, its literals, which are the words, and `more` behind them.
+// A record's kind, its count, its literals, which are the words, and `more` behind them. `words` and `vars` stand apart: an iterator of literals would
+// have to stop at, and tell of, a word that is none.
 fn put_record(
     kind: Kind,
-    words: Option<&[u8]>,
+    words: Words,
     vars: Variables,
     more: &[u32],
     rest: &mut [u32],
 ) -> Result<usize, Rule>
     requires rest_len { length rest.old ≤ max_cells }
     requires more_len { length more.now ≤ 1 }
-    ensures { Puts (record_of (number kind) more.now (literals vars.count (words_of words.entry))) rest.old rest.new result }
+    ensures { Puts (record_of (cell_of kind) more.now (literals vars.count (words_left words.entry))) rest.old rest.new result }
 {
     let count = count_literals(words, vars)?;
     if rest.len() <= count || rest.len() - count < 2 + more.len() {
         return Err(Rule::LongText);
     }
     let end = 2 + count;
-    rest[0] = kind.number();
+    rest[0] = kind as u32;
     rest[1] = count as u32;
     put_literals(words, vars, &mut rest[2..end]);
     let all = end + more.len();
@@ -125,10 +121,11 @@ fn put_vars(line: &[u8], key: &[u8], rest: &mut [u32]) -> Result<usize, Rule>
 
 // A clause's words; none if the line ends behind its key.
 #[tactic(auto, unfolding(crate::specs::Format::clause_words))]
-fn clause_words(body: &[u8]) -> Option<&[u8]>
-    ensures { words_of result ≡ clause_words body.now }
+fn clause_words(body: &[u8]) -> Words<'_>
+    ensures { words_left result ≡ clause_words body.now }
 {
-    if body.is_empty() { None } else { Some(body) }
+    let left = if body.is_empty() { None } else { Some(body) };
+    Words { left }
 }
 
 // A line behind the header.
@@ -140,12 +137,12 @@ fn put_record_line(line: &[u8], vars: Variables, rest: &mut [u32]) -> Result<usi
         return put_record(Kind::Clause, clause_words(body), vars, &[], rest);
     }
     let body = line.strip_prefix(b"solve=").ok_or(Rule::BadKey)?;
-    let (word, words) = cut(body, b' ');
+    let (word, left) = cut(body, b' ');
     let budget = decimal(word).ok_or(Rule::BadNumber)?;
-    put_record(Kind::Solve, words, vars, &[budget], rest)
+    put_record(Kind::Solve, Words { left }, vars, &[budget], rest)
 }
 
-// Line n, from 1.
+// Line n, from 1: by its number, since that is what says which key a line must have (docs/FORMAT.md).
 fn put_line(line: &[u8], n: usize, vars: Variables, rest: &mut [u32]) -> Result<usize, Rule>
     requires { length rest.old ≤ max_cells }
     ensures { Puts (line_cells n vars.count line.now) rest.old rest.new result }
@@ -172,23 +169,18 @@ pub fn read(text: &[u8], script: &mut [u32]) -> Result<Script, Refusal>
     }
     let room = script.len().min(MAX_CELLS);
     let mut vars = 0;
+    // The line to come; behind the last it says how many there were.
     let mut n = 1;
     let mut used = 0;
-    let mut left = text;
-    while !left.is_empty() {
-        let (line, behind) = cut(left, b'\n');
-        match put_line(line, n, Variables { count: vars }, &mut script[used..room]) {
-            Ok(cells) => used += cells,
-            Err(rule) => {
-                return Err(Refusal {
-                    rule,
-                    place: n as u64,
-                });
-            }
-        }
+    let lines = Lines { left: text };
+    for line in lines {
+        let rest = &mut script[used..room];
+        used += put_line(line, n, Variables { count: vars }, rest).map_err(|rule| Refusal {
+            rule,
+            place: n as u64,
+        })?;
         vars = script[0];
         n += 1;
-        left = behind.unwrap_or(&[]);
     }
     if n < 5 {
         return Err(Refusal {

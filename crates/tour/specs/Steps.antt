@@ -1,5 +1,5 @@
 -- What each step of a tour makes of the state.
-use Rattle.std.specs.Prelude.{ℕ, ◌+◌, ◌-◌, ◌*◌, ◌≡◌, Bool, true, false, not, ◌&&◌, [], ◌∷◌, length, get_or, leb, ltb, eqb}
+use Rattle.std.specs.Prelude.{ℕ, ◌+◌, ◌-◌, ◌*◌, Bool, true, false, not, ◌&&◌, [], ◌∷◌, length, get_or, leb, ltb, eqb}
 use Rattle.model.specs.Lit.{var}
 use Rattle.model.specs.State.{decision_level}
 use Rattle.model.specs.Trail.{level_end}
@@ -12,7 +12,6 @@ use Rattle.store.specs.View.{Clauses}
 use Rattle.litset.specs.View.{Members, inserted, emptied}
 use Rattle.state.specs.declared.State.{State}
 use Rattle.state.specs.Fresh.{stored_in}
-use Rattle.tour.specs.Live.{Live}
 
 -- the two outcomes of a test
 abbrev pub pick : {A : Type 0} → Bool → A → A → A
@@ -31,14 +30,6 @@ with_clauses s k = record s { clauses = k }
 
 abbrev pub with_finals : State → Members → State
 with_finals s f = record s { finals = f }
-
--- the state is live, and it is t
-pub record At (s t : State) : Type 0 where
-  pub live : Live s
-  pub value : s ≡ t
-
-pub at_of : {s t : State} → Live t → s ≡ t → At s t
-at_of k e = record { live = rw e k; value = e }
 
 -- ---- the steps
 

@@ -9,7 +9,7 @@ use Rattle.trail.specs.declared.Trail.TheInside.{Inside}
 abbrev regions : Assignment → List (List ℕ)
 regions a = a.vars.values ∷ a.vars.levels ∷ a.vars.reasons ∷ a.phases ∷ a.trail_cells ∷ a.limit_cells ∷ []
 
-abbrev slices : Inside → List (List ℕ)
+abbrev pub slices : Inside → List (List ℕ)
 slices t = t.values.now ∷ t.levels.now ∷ t.reasons.now ∷ t.phases.now ∷ t.literals.now ∷ t.limits.now ∷ []
 
 -- two trails that show the same have the same in their slices

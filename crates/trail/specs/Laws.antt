@@ -4,6 +4,8 @@ use Rattle.std.proofs.Common.{arith, length-append}
 use Rattle.std.proofs.Math.Seq.{length-take-le}
 use Rattle.model.specs.State.{decision_level, initial_state}
 use Rattle.model.specs.Trail.{unchecked_enqueue, new_decision_level, vars_until, level_end}
+use Rattle.options.specs.Numbers.{phase_number, phase_of}
+use Rattle.options.proofs.Chosen.{saved_as}
 use Rattle.trail.specs.View.{Assignment, Counted, Undoable, initial_assignment, enqueued, next_level, until}
 use Rattle.trail.specs.Inside.{shown, Kept}
 use Rattle.trail.specs.declared.Trail.TheInside.{Inside}
@@ -36,3 +38,7 @@ module _ (a : Assignment) where
         assigned = length-take-le (level_end a.vars level) a.vars.trail u.within;
         levels = length-take-le level a.vars.limits (omega arith);
       }
+
+-- the way back by any number is that by the phase made of it
+pub until_as : (n : ℕ) (a : Assignment) (level : ℕ) → until (phase_number (phase_of n)) a level ≡ until n a level
+until_as n a level = rw (saved_as n a.vars level)

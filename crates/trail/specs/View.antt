@@ -1,5 +1,5 @@
 -- The assignment as the definition has it, with the phases, and what its functions do to it.
-use Rattle.std.specs.Prelude.{ℕ, zero, suc, ◌-◌, ◌*◌, ◌≤◌, ◌<◌, max, ◌≡◌, Bool, true, false, List, [], length, get_or, set, take, drop, ltb}
+use Rattle.std.specs.Prelude.{ℕ, zero, suc, ◌-◌, ◌*◌, ◌≤◌, ◌<◌, max, ◌≡◌, Bool, true, false, List, [], length, get_or, set, take, drop, ltb, leb}
 use Rattle.model.specs.Limits.{max_variables}
 use Rattle.model.specs.Lit.{var, sign, l_undef}
 use Rattle.model.specs.State.{VarState, initial_state, decision_level}
@@ -53,6 +53,10 @@ until phase a level =
       trail_cells = a.trail_cells;
       limit_cells = a.limit_cells;
     }
+
+-- the same, where there are levels above it
+unfoldable pub back_to : ℕ → Assignment → ℕ → Assignment
+back_to phase a level = elim (leb (decision_level a.vars) level) [ true ↦ a | false ↦ until phase a level ]
 
 -- each value is one of the three
 abbrev pub Values : List ℕ → Type 0

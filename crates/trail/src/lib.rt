@@ -1,17 +1,22 @@
-// The assignment: by variable its value, level, reason and phase, and the trail with where each level starts on it. Each has a slice of its own.
+// The assignment: by variable its value, level, reason and phase, and the trail with where each level starts on it.
+// Each has a slice of its own, and not one of structs: C lends numbers, and propagation reads values alone.
+// That a variable or a literal is one of the trail's is asked where it is used: it depends on the trail, so no type of variables has it as an invariant.
 #![tactic(auto)]
 
 ghost use Rattle.std.specs.Prelude.{◌≡◌, ◌+◌, ◌*◌, ◌<◌, ◌≤◌, length, get_or, Some, None};
 ghost use Rattle.model.specs.Limits.{max_variables};
 ghost use Rattle.model.specs.Lit.{var, value_lit, is_true, is_false};
 ghost use Rattle.model.specs.State.{decision_level};
+ghost use Rattle.options.specs.Numbers.{phase_number};
 ghost use Rattle.clause.specs.Cells.{cell_of, reason_at, reason_cell};
 ghost use Rattle.trail.specs.View.{found, initial_assignment, enqueued, next_level, until, Undoable, LitsOf, Sound, saves, undone};
 
 use clause::{Lit, NO_REASON, UNDEF, Value, Var, reason_at, reason_cell};
+use options::Phase;
 use std::marker::Model;
 
-// The first `assigned` of `literals` are the trail, and the first `depth` of `limits` have where on it each level starts.
+// The first `assigned` of `literals` are the trail; the first `depth` of `limits` have where on it each level starts.
+// Lent slices with lengths, since there is no heap for a Vec.
 #[derive(Drop)]
 pub struct Trail<'a> {
     values: &'a mut [u32],
@@ -94,7 +99,7 @@ impl<'a> Trail<'a> {
         p.value(self.value(p.var()))
     }
 
-    // One comparison on the cell, since propagation asks this most.
+    // One comparison on the cell: propagation asks this most, and comparing values took 3 % more instructions (docs/PERFORMANCE.md).
     pub fn is_true(&self, p: Lit) -> bool
         requires { var p.0 < length self.now.vars.values }
         ensures { result ≡ is_true self.now.vars.values p.0 }
@@ -102,7 +107,7 @@ impl<'a> Trail<'a> {
         self.values[p.var().0 as usize] == p.sign()
     }
 
-    // Likewise.
+    // Likewise: cell and sign are 0 and 1, or 1 and 0.
     pub fn is_false(&self, p: Lit) -> bool
         requires { var p.0 < length self.now.vars.values }
         ensures { result ≡ is_false self.now.vars.values p.0 }
@@ -126,7 +131,7 @@ impl<'a> Trail<'a> {
         reason_at(self.reasons[v.0 as usize])
     }
 
-    // The sign of a variable's next decision.
+    // The sign of a variable's next decision: a number, as `Lit::new` takes it.
     pub fn phase(&self, v: Var) -> u32
         requires { v.0 < length self.now.vars.values }
         ensures { result ≡ get_or self.now.phases v.0 0 }
@@ -199,10 +204,10 @@ impl<'a> Trail<'a> {
 
     // Takes back the last literal of the trail.
     #[tactic(auto, unfolding(crate::specs::View::undone))]
-    fn undo_last(&mut self, phase: u32, last: usize)
+    fn undo_last(&mut self, phase: Phase, last: usize)
         requires lits { LitsOf (length self.old.vars.values) self.old.vars.trail }
         requires assigned { 0 < length self.old.vars.trail }
-        ensures { self.new ≡ undone phase last self.old }
+        ensures { self.new ≡ undone (phase_number phase) last self.old }
     {
         self.assigned -= 1;
         let p = Lit(self.literals[self.assigned]);
@@ -214,10 +219,10 @@ impl<'a> Trail<'a> {
     }
 
     // Back to a level: what stands above it is unset, and the phases are saved as `phase` says.
-    pub fn cancel_until(&mut self, level: usize, phase: u32)
+    pub fn cancel_until(&mut self, level: usize, phase: Phase)
         requires level { level < decision_level self.old.vars }
         requires undoable { Undoable (length self.old.vars.values) self.old.vars level }
-        ensures { self.new ≡ until phase self.old level }
+        ensures { self.new ≡ until (phase_number phase) self.old level }
     {
         let at = self.limit(level);
         let top = self.depth - 1;
@@ -230,12 +235,12 @@ impl<'a> Trail<'a> {
 }
 
 // Whether the sign of the literal at place c of the trail is saved.
-fn saves_phase(phase: u32, last: usize, c: usize) -> bool
-    ensures { result ≡ saves phase last c }
+fn saves_phase(phase: Phase, last: usize, c: usize) -> bool
+    ensures { result ≡ saves (phase_number phase) last c }
 {
     match phase {
-        0 => false,
-        1 => last < c,
-        _ => true,
+        Phase::Unsaved => false,
+        Phase::Limited => last < c,
+        Phase::Full => true,
     }
 }

@@ -5,8 +5,9 @@ use Rattle.std.proofs.Common.{arith, sym, not-suc-le-zero, ap, ◌∙◌, length
 use Rattle.std.proofs.Math.Decide.{ℕ_discrete}
 use Rattle.std.proofs.Math.ListN.{length-map, length-set}
 use Rattle.std.proofs.Math.Seq.{get_or-set_same, get_or-set_other, map-set_same}
-use Rattle.std.proofs.lemmas.List.{map-set, get_or-map}
-use Rattle.watch.specs.View.{Cells, Paired, cells_of, with_link, with_note}
+use Rattle.std.proofs.lemmas.List.{map-set, get_or-map, ext_get_or}
+use Rattle.watch.specs.View.{Cells, Watches, Paired, cells_of, with_link, with_note, shown}
+use Rattle.watch.specs.declared.Size.{Size}
 
 -- ---- a slice's records
 
@@ -76,3 +77,31 @@ module _ (w : List (List ℕ)) where
           let r = get_or w x [] in
           same_cells (map-set_same (λ r. get_or r 0 0) w x (set r 1 v) [] (get_or-set_other r 1 0 v 0 (omega arith)))
           (map-set (λ r. get_or r 1 0) w x (set r 1 v) ∙ ap (set (map (λ r. get_or r 1 0) w) x) (get_or-set_same r 1 v 0 (rw (p x h) (omega arith))))
+
+-- ---- every cell shows
+
+pair_same : {r r' : List ℕ} → length r ≡ 2 → length r' ≡ 2 → get_or r 0 0 ≡ get_or r' 0 0 → get_or r 1 0 ≡ get_or r' 1 0 → r ≡ r'
+pair_same {r} {r'} l l' e f = ext_get_or 0 r r' (l ∙ sym l') cell
+  where
+    cell : (v : ℕ) → v < length r → get_or r v 0 ≡ get_or r' v 0
+    cell zero h = e
+    cell (suc zero) h = f
+    cell (suc (suc v)) h = absurd (omega (arith, l))
+
+-- records of two cells with the same links and notes are the same
+records_same : (w w' : List (List ℕ)) → Paired w → Paired w' → cells_of w ≡ cells_of w' → w ≡ w'
+records_same w w' p p' e = ext_get_or [] w w' same (λ x h. record_same x h (omega (arith, same)))
+  where
+    same : length w ≡ length w'
+    same = sym (links_length w) ∙ ap (λ (c : Cells). length c.links) e ∙ links_length w'
+
+    record_same : (x : ℕ) → x < length w → x < length w' → get_or w x [] ≡ get_or w' x []
+    record_same x h h' =
+        pair_same (p x h) (p' x h')
+        (link_get w x h ∙ ap (λ (c : Cells). get_or c.links x 0) e ∙ sym (link_get w' x h'))
+        (note_get w x h ∙ ap (λ (c : Cells). get_or c.notes x 0) e ∙ sym (note_get w' x h'))
+
+-- two slices of records that show the same are the same
+pub all_shown : (d d' : Size) (w w' : List (List ℕ)) → Paired w → Paired w' → shown d (cells_of w) ≡ shown d' (cells_of w') → w ≡ w'
+unfolding shown
+all_shown d d' w w' p p' e = records_same w w' p p' (ap (λ (s : Watches). s.cells) e)

@@ -1,7 +1,8 @@
-// Watch lists as linked nodes in a lent slice. A node is a record of two cells, its link and its blocker; clause c has the nodes 2c and 2c + 1. Behind the nodes a
-// literal has two records, whose first cells are links too. The links of a list are, in order, those of the literal's two records and of the list's nodes: the link at
-// place i names the node at place i. So a node's link names the node two places on, and a walk has two links at hand, and need not wait for the next node. The
-// literal's two records have as second cells the two links behind the list's end, which name no node.
+// Watch lists as linked nodes in a lent slice, since there is no heap for a Vec for each literal. A node is a record of two cells, its link and its blocker;
+// clause c has the nodes 2c and 2c + 1. Behind the nodes a literal has two records, whose first cells are links too.
+// The links of a list are, in order, those of the literal's two records and of the list's nodes: the link at place i names the node at place i.
+// So a node's link names the node two places on, and a walk has two links at hand, and need not wait for the next node.
+// The literal's two records have as second cells the two links behind the list's end, which name no node.
 #![tactic(auto)]
 
 ghost use Rattle.std.specs.Prelude.{◌≡◌, ◌+◌, ◌*◌, ◌≤◌, ◌<◌, [], length, get_or, ltb, replicate};
@@ -35,7 +36,8 @@ impl Size {
 }
 
 // A place on a walk through a list: the record whose link names the node there, the record of the next link, and how many nodes have been passed that stayed.
-// No step reads that number; it says in the contracts where the walk is.
+// No step reads that number; it says in the contracts where the walk is. That the cursor stands in a list (`Stands`) depends on the list,
+// so it is asked and no invariant. It is no iterator: propagation changes the list while it is walked.
 #[derive(Clone, Copy)]
 pub struct Cursor {
     pub at: usize,
@@ -44,6 +46,7 @@ pub struct Cursor {
 }
 
 // The watch lists: contracts see for each literal the nodes of its list in order, and for each node its blocker.
+// That a literal has a list, and that a node is one of these, is asked where they are used: it depends on the lists.
 #[derive(Drop)]
 pub struct Watches<'a> {
     table: Table<'a>,
@@ -72,13 +75,14 @@ impl<'a> Watches<'a> {
         let size = Size { slots, nodes };
         let end = nodes + 2 * slots;
         let mut table = Table::new(cells, end);
+        // By number: each record gets its own.
         for x in nodes..end {
             table.set_note(x, x as u32);
         }
         Watches { table, size }
     }
 
-    // What every value keeps. It does nothing when it runs.
+    // What is true of all watch lists, for a caller's proof.
     pub fn sound(&self)
         ensures { Sound self.now }
     {
@@ -202,6 +206,7 @@ impl<'a> Watches<'a> {
     }
 
     // The node x at the cursor goes to the end of the list of m, with the blocker b. The cursor is at the next as it is.
+    // In all of these the list's literal stands beside the cursor, since it does not move, and x, which the caller has read by `node` already.
     pub fn leave(&mut self, l: Lit, c: Cursor, x: usize, m: Lit, b: Lit)
         requires lists { (l.0 < length self.old.lists) × (m.0 < length self.old.lists) × (l.0 ≡ m.0 → ⊥) }
         requires stands { Stands (length self.old.blockers) l.0 c (list_of self.old l.0) × (c.passed < length (list_of self.old l.0)) }

@@ -1,4 +1,5 @@
 // A lent slice as records of two cells: a link, and a note, which is a node's blocker or an end of a list.
+// Each cell has a pair of functions of its own: one pair that takes 0 or 1 would read no plainer.
 ghost use Rattle.std.specs.Prelude.{◌≡◌, ◌*◌, ◌≤◌, ◌<◌, length, get_or};
 ghost use Rattle.std.specs.Simd.{first_chunks};
 ghost use Rattle.watch.specs.View.{cells_of, with_link, with_note};

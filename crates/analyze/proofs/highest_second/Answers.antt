@@ -1,4 +1,4 @@
-use Rattle.std.proofs.Common.{◌≤◌, length, length-set, arith}
+use Rattle.std.proofs.Common.{◌≤◌, length, arith}
 use Rattle.analyze.specs.Second.{place_in, seconded-unit, seconded_swap}
 use Rattle.analyze.proofs.highest_second.Goals as goal
 
@@ -10,13 +10,12 @@ at-q-requires c =
     let two : 2 ≤ length c.args.buffer.now.items = omega arith in
     omega (arith, c.highest-best.ensures, place_in c.args.trail.now.vars c.args.buffer.now.items two)
 
-pub set-requires-2 : goal.set-requires-2
-set-requires-2 c =
+pub swap-requires-clause-j_in_bounds : goal.swap-requires-clause-j_in_bounds
+swap-requires-clause-j_in_bounds c =
     let two : 2 ≤ length c.args.buffer.now.items = omega arith in
-    rw (c.set.ensures, length-set) (omega (arith, c.highest-best.ensures, place_in c.args.trail.now.vars c.args.buffer.now.items two))
+    omega (arith, c.highest-best.ensures, place_in c.args.trail.now.vars c.args.buffer.now.items two)
 
 pub returns : goal.returns
 returns c =
     let two : 2 ≤ length c.args.buffer.now.items = omega arith in
-    rw (c.set-2.ensures, c.set.ensures, c.at-q.ensures, c.at-p.ensures, c.level.ensures, c.var.ensures, c.at-q.ensures)
-    (seconded_swap _ _ two c.highest-best.result c.highest-best.ensures)
+    rw (c.swap.ensures, c.level.ensures, c.var.ensures, c.at-q.ensures) (seconded_swap _ _ two c.highest-best.result c.highest-best.ensures)

@@ -2,9 +2,6 @@ use Rattle.std.proofs.Common.{arith, add-one, subst, ◌≡◌}
 use Rattle.leafbench.specs.Loops.{Row, row_more}
 use Rattle.leafbench.proofs.clauses.Goals as goal
 
-pub add-requires : goal.add-requires
-add-requires c = c.loop-i.invariant.1.live
-
 pub loop-i-preserved : goal.loop-i-preserved
 loop-i-preserved c =
     let v = c.loop-i in
@@ -13,4 +10,4 @@ loop-i-preserved c =
 pub returns : goal.returns
 returns c =
     let v = c.loop-i in
-    subst (λ n. Row c.args.s.now v.s n) (let e : v.i ≡ 32 = omega (arith, v.invariant.0, c.loop-i-test.false) in e) v.invariant.1
+    subst (λ n. Row c.args.t.now v.t n) (let e : v.i ≡ 32 = omega (arith, v.invariant.0, c.loop-i-test.false) in e) v.invariant.1

@@ -3,4 +3,4 @@ use Rattle.leafbench.specs.Loops.{Row}
 use Rattle.leafbench.proofs.clauses.Given as goal
 
 abbrev pub invariant-loop-i : goal.invariant-loop-i
-invariant-loop-i l = (l.i ≤ 32) × Row l.fn.s l.s l.i
+invariant-loop-i l = (l.i ≤ 32) × Row l.fn.t l.t l.i

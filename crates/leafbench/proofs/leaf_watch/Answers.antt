@@ -4,12 +4,12 @@ use Rattle.leafbench.specs.Loops.{row_begun, lined_filled, lined_length, config_
 use Rattle.leafbench.proofs.leaf_watch.Goals as goal
 
 pub clauses-requires-clause-row : goal.clauses-requires-clause-row
-clauses-requires-clause-row c = row_begun c.begin-s.ensures.live c.begin-s.ensures.started (omega arith)
+clauses-requires-clause-row c = row_begun c.begin-t.ensures (omega arith)
 
-pub walks-k-requires-clause-list : goal.walks-k-requires-clause-list
-walks-k-requires-clause-list c =
+pub walks-k-requires : goal.walks-k-requires
+walks-k-requires c =
     let ps = take 64 c.args.order.now in
-    let k = c.begin-s.ensures.started in
+    let k = c.begin-t.ensures in
     (omega (arith, ap (λ (g : Config). g.vars) (config_filled ps k c.clauses.ensures c.fill.ensures)), omega (arith, lined_length 32 (lined_filled ps k c.clauses.ensures c.fill.ensures)))
 
 pub returns-clause-value : goal.returns-clause-value
@@ -18,5 +18,5 @@ returns-clause-value c =
     let n = length c.args.order.now in
     let ps = take 64 c.args.order.now in
     let most : length ps ≤ 64 = rw length-take (omega arith) in
-    let e = hits-filled ps c.begin-s.ensures.started c.clauses.ensures c.fill.ensures (omega arith) most in
+    let e = hits-filled ps c.begin-t.ensures c.clauses.ensures c.fill.ensures (omega arith) most in
     c.walks-k.ensures ∙ ap (λ k. c.args.n * k) e ∙ sym (long_enough m n _ _ (omega (arith, c.if-work-lt2114.false)) (omega (arith, c.if-order-lt64.false)))

@@ -7,8 +7,8 @@ use Rattle.leafbench.proofs.turns.Goals as goal
 pub overflow_add-put : goal.overflow_add-put
 overflow_add-put c =
     let v = c.loop in
-    let n = c.args.s.now.config.vars in
+    let n = c.args.t.now.config.vars in
     let turns : v.counter ≤ 4294967295 = omega (arith, v.invariant.0, c.ranges.n.fits) in
     let most = put_bound n c.args.order.now c.requires.order in
-    let one : c.turn.result ≡ put_on n 0 c.args.order.now = rw v.invariant.3 at c.turn.ensures.value in
-    omega (arith, one, most, v.invariant.4, mul-le-mul turns most)
+    let one : c.turn.result ≡ put_on n 0 c.args.order.now = rw v.invariant.2 at c.turn.ensures.value in
+    omega (arith, one, most, v.invariant.3, mul-le-mul turns most)

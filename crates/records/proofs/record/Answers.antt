@@ -1,5 +1,5 @@
 use Rattle.model.specs.Run.{step}
-use Rattle.records.specs.Recording.{done, fits_clause, fits_solve}
+use Rattle.records.specs.Recording.{fits_clause, fits_solve}
 use Rattle.records.proofs.record.Goals as goal
 
 pub clause-requires-clause-room : goal.clause-requires-clause-room

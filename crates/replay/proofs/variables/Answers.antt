@@ -1,8 +1,7 @@
-use Rattle.replay.specs.VectorLaws.{first_cell, no_variables}
+use Rattle.std.proofs.Common.{◌≡◌, rules, ◌∙◌}
+use Rattle.std.specs.Prelude.{slice_index}
+use Rattle.replay.specs.VectorLaws.{first_cell}
 use Rattle.replay.proofs.variables.Goals as goal
 
-pub returns-then-script-eq0 : goal.returns-then-script-eq0
-returns-then-script-eq0 c = no_variables c.args.script.now c.if-script-eq0.true
-
 pub returns : goal.returns
-returns c = first_cell c.args.script.now
+returns c = let h : c.unwrap_or.result ≡ slice_index c.args.script.now 0 = search rules in h ∙ first_cell c.args.script.now

@@ -6,4 +6,4 @@ use Rattle.litset.proofs.LitSet.new.Goals as goal
 pub invariant_of-result : goal.invariant_of-result
 invariant_of-result c =
     let e : c.fill.new.self ≡ replicate (length c.args.flags.now) 0 = search rules in
-    rw e (none_set _ (no_flags _) _)
+    rw (e, c.new.ensures) (none_set _ (no_flags _))

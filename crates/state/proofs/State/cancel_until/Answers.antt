@@ -1,5 +1,3 @@
-use Rattle.std.proofs.Common.{arith, sym, subst, ◌∙◌, ◌≤◌, ◌<◌}
-use Rattle.model.specs.State.{decision_level}
 use Rattle.state.specs.Back.{back_stays, back_undoable, back_goes}
 use Rattle.state.proofs.State.cancel_until.Goals as goal
 

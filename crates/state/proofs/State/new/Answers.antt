@@ -1,5 +1,5 @@
 use Rattle.std.specs.Prelude.{[], replicate}
-use Rattle.std.proofs.Common.{refl, ap, ap₂, sym, ◌∙◌, arith, ◌≡◌, ◌*◌, ◌+◌, ◌≤◌, ℕ, List, length, take, drop, length-drop}
+use Rattle.std.proofs.Common.{refl, ap, ap₂, ◌∙◌, arith, ◌≡◌, ◌*◌, ◌+◌, ◌≤◌, ℕ, List, length, take, drop, length-drop}
 use Rattle.std.proofs.lemmas.List.{length-replicate}
 use Rattle.std.proofs.Math.Seq.{length-take-le}
 use Rattle.trail.specs.View as trail

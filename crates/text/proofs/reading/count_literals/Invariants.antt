@@ -1,14 +1,14 @@
-use Rattle.std.proofs.Common.{◌≡◌, ◌+◌, ◌≤◌}
+use Rattle.std.proofs.Common.{◌≡◌, ◌+◌, ◌≤◌, length}
 use Rattle.text.specs.Format.{literals}
-use Rattle.text.specs.SplitLaws.{words_of}
-use Rattle.text.specs.FormatLaws.{counted, most_words}
+use Rattle.text.specs.FormatLaws.{counted}
+use Rattle.text.specs.Pieces.{words_left}
 use Rattle.text.proofs.reading.count_literals.Given as goal
 
-abbrev pub invariant-loop-left : goal.invariant-loop-left
-invariant-loop-left l = record {
-  same : counted l.count (literals l.vars.count (words_of l.left)) ≡ counted 0 (literals l.vars.count (words_of l.words));
-  few : l.count + most_words l.left ≤ most_words l.words;
-}
-
-abbrev pub decreases-loop-left : goal.decreases-loop-left
-decreases-loop-left l = most_words l.left
+abbrev pub invariant-loop-word : goal.invariant-loop-word
+invariant-loop-word l =
+    record {
+      can_next : (goal.iterator-loop-word).can_next l.word-iterator;
+      is_finite : (goal.iterator-loop-word).is_finite l.word-iterator;
+      same : counted l.count (literals l.vars.count (words_left l.word-iterator)) ≡ counted 0 (literals l.vars.count (words_left l.words));
+      few : l.count + length (words_left l.word-iterator) ≤ length (words_left l.words);
+    }

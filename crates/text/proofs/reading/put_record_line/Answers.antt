@@ -4,6 +4,7 @@ use Rattle.text.specs.Bytes.{bytes}
 use Rattle.text.specs.Split.{words}
 use Rattle.text.specs.Format.{record_of, literals, clause_words, clause_cells, solve_cells}
 use Rattle.text.specs.SplitLaws.{stripped_none, stripped_some, words_cut, words_of}
+use Rattle.text.specs.Pieces.{words_left}
 use Rattle.text.specs.PutLaws.{puts_wrong, puts_as, record_clause, record_solve, record_neither, solve_bad, solve_good}
 use Rattle.text.proofs.reading.put_record_line.Goals as goal
 
@@ -13,7 +14,7 @@ returns-in-Some c =
     let v = c.args.vars.count in
     let l = c.args.line.now in
     let s = stripped_some (bytes "clause=") l c.strip_prefix.result c.in-Some.body c.strip_prefix.ensures.cases c.in-Some.is in
-    let w : words_of c.clause_words.result ≡ clause_words (drop 7 l) = c.clause_words.ensures ∙ ap clause_words s.1 in
+    let w : words_left c.clause_words.result ≡ clause_words (drop 7 l) = c.clause_words.ensures ∙ ap clause_words s.1 in
     puts_as _ (record_clause v l s.0 ∙ sym (ap (λ (ws : List (List ℕ)). record_of 1 [] (literals v ws)) w)) c.put_record.ensures
 
 pub returns-in_err-body : goal.returns-in_err-body

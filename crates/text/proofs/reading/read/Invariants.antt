@@ -1,11 +1,12 @@
-use Rattle.std.proofs.Common.{length}
-use Rattle.text.specs.Split.{lines}
 use Rattle.text.specs.Format.{read_text}
+use Rattle.text.specs.Pieces.{lines_left}
 use Rattle.text.specs.ReadLaws.{Reached}
 use Rattle.text.proofs.reading.read.Given as goal
 
-abbrev pub invariant-loop-left : goal.invariant-loop-left
-invariant-loop-left l = Reached l.room l.n l.used l.vars l.script l.initial.script (lines l.left) (read_text l.room l.text)
-
-abbrev pub decreases-loop-left : goal.decreases-loop-left
-decreases-loop-left l = length l.left
+abbrev pub invariant-loop-line : goal.invariant-loop-line
+invariant-loop-line l =
+    record {
+      can_next : (goal.iterator-loop-line).can_next l.line-iterator;
+      is_finite : (goal.iterator-loop-line).is_finite l.line-iterator;
+      reached : Reached l.room l.n l.used l.vars l.script l.initial.script (lines_left l.line-iterator) (read_text l.room l.text);
+    }

@@ -1,0 +1,25 @@
+-- What is true of all marks.
+use Rattle.std.specs.Prelude.{ℕ, ◌<◌, ◌≡◌, false, List, eqb, length, get_or}
+use Rattle.std.specs.List.{All}
+use Rattle.std.proofs.Common.{arith}
+use Rattle.std.proofs.Math.Decide.{dec_lt}
+use Rattle.std.proofs.lemmas.Bool.{eqb-false}
+use Rattle.std.proofs.lemmas.List.{get_or_past}
+use Rattle.std.proofs.lemmas.List.Elements.{All-get_or}
+
+-- each cell is 0 or 1
+abbrev pub SoundMarks : List ℕ → Type 0
+SoundMarks m = All (λ x. x < 2) m
+
+module _ (m : List ℕ) (s : SoundMarks m) (v : ℕ) where
+  -- past the marks too, where `get_or` reads 0
+  pub mark_below : get_or m v 0 < 2
+  mark_below = go (dec_lt v (length m))
+    where
+      go : Dec (v < length m) → get_or m v 0 < 2
+      go (yes h) = All-get_or (λ x. x < 2) m v 0 h s
+      go (no h) = omega (arith, get_or_past m v 0 (omega arith))
+
+  -- the mark of a variable that is not set is 0
+  pub unset_is_0 : eqb (get_or m v 0) 1 ≡ false → get_or m v 0 ≡ 0
+  unset_is_0 e = omega (arith, mark_below, eqb-false (get_or m v 0) 1 e)

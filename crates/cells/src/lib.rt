@@ -37,7 +37,7 @@ pub enum Cause {
     Storage = 2,
 }
 
-// The cells of `from` go to out, from `at` on.
+// The cells of `from` go to out, from `at` on: `put_solve` and counter's `Writer` have cells before them.
 pub fn put(out: &mut [u32], at: usize, from: &[u32])
     requires { at + length from.now ≤ length out.old }
     ensures { out.new ≡ paste out.old at from.now (length from.now) }

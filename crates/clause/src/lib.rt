@@ -24,7 +24,7 @@ pub enum Value {
 // The cell of a variable without a value. C lends work as numbers, so a cell is one; what it stands for is a `Value`, or an Option for a reason.
 pub const UNDEF: u32 = Value::Undef as u32;
 
-// The cell of the reason of a decision and of a unit, the Rust's CRef::UNDEF.
+// The cell of the reason of a decision and of a unit, a number as UNDEF is: the Rust's CRef::UNDEF.
 pub const NO_REASON: u32 = 4294967295;
 
 impl From<u32> for Value {

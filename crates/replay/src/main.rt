@@ -233,7 +233,6 @@ fn holds(numbers: &[u32], work: &mut [u32], activities: &mut [f64], out: &mut [u
 // ---- the text
 
 // Stores the numbers behind the name of a line: 0 of them if a word is no number, or they do not fit. A line without numbers does not hold either, so no Option.
-// Cut by hand, as in `group` and `groups`: what is left is handed on, and would have to be read off `Words` and `Lines` of crate text at the same places.
 fn numbers(line: &[u8], cells: &mut [u32]) -> usize
     ensures { (result ≤ length cells.new) × (take result cells.new ≡ line_numbers (length cells.old) line.now) }
 {
@@ -339,7 +338,8 @@ impl Room<'_> {
         }
     }
 
-    // The scripts up to the next group, and the text from it on.
+    // The scripts up to the next group, and the text from it on. By `cut`: a group ends before a line that the next one has to see, and an iterator
+    // would have taken it.
     fn group<'t>(&mut self, rt: &impl Print, input: &'t [u8]) -> (Tally, &'t [u8])
         ensures grouped { Grouped (line_holds self.old) input.now result.1.now result.0 }
         ensures room { self.new ≡ self.old }

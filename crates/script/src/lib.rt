@@ -280,7 +280,7 @@ fn judge_kind(cell: u32, at: usize) -> Result<Kind, Refusal>
     ensures judged { Judged result (row 7 (known cell) at ∷ []) }
     ensures kind { IfOk result (λ kind. cell_of kind ≡ cell) }
 {
-    // By a match: with `map_err` the proof of both clauses did not close.
+    // By a match: with `map_err` the proof of the first clause was not found.
     match Kind::try_from(cell) {
         Ok(kind) => Ok(kind),
         Err(rule) => Err(Refusal {

@@ -41,8 +41,7 @@ fn sort_in(buffer: &mut Lits, part: &[u32])
     requires { length part.now ≤ length buffer.old.cells }
     ensures { Sorts buffer.old buffer.new part.now }
 {
-    buffer.set_all(part);
-    buffer.sort();
+    buffer.set_sorted(part);
 }
 
 // What a literal does to the clause: it drops the clause, is left out, or is kept.

@@ -114,7 +114,7 @@ module _ (s : State) (ps : List ℕ) {a b r : State} (v : Live b) (none : Counte
 
   is_open : a ≡ with_trail s (next_level s.trail)
   is_open =
-      opens ∙ rw (lt-ltb (decision_level s.trail.vars) (3 * s.config.vars) (omega (arith, none.levels, v.some, ap (λ (g : Config). g.vars) config_open))) refl
+      opens ∙ rw (lt-ltb (decision_level s.trail.vars) (3 * s.config.vars) (omega (arith, none.levels, v.sized.some, ap (λ (g : Config). g.vars) config_open))) refl
 
   limits_open : b.trail.vars.limits ≡ s.trail.vars.limits ++ (on s ∷ [])
   unfolding unchecked_enqueue new_decision_level
@@ -264,7 +264,7 @@ module _ {x s s' : State} {i : ℕ} (a : Ample x) (v : Row x s i) (g : i < 32) (
   is_added =
       adds
       ∙ rw
-      (lt-ltb (length s.clauses.clauses) s.clauses.room (omega (arith, a.room, v.room, v.clauses)), le-leb (stored_literals s.clauses.clauses + 3) s.clauses.lit_room (omega (arith, a.lit_room, v.lit_room, v.literals)), lt-ltb 0 (2 * s.config.vars) (omega (arith, v.live.some)), lt-ltb (2 * i + 2) (2 * s.config.vars) (omega (arith, a.vars, ap (λ (c : Config). c.vars) v.config)))
+      (lt-ltb (length s.clauses.clauses) s.clauses.room (omega (arith, a.room, v.room, v.clauses)), le-leb (stored_literals s.clauses.clauses + 3) s.clauses.lit_room (omega (arith, a.lit_room, v.lit_room, v.literals)), lt-ltb 0 (2 * s.config.vars) (omega (arith, v.live.sized.some)), lt-ltb (2 * i + 2) (2 * s.config.vars) (omega (arith, a.vars, ap (λ (c : Config). c.vars) v.config)))
       refl
 
   watches_are : s'.watches ≡ attached i 0 (2 * i + 2) s.watches
@@ -286,10 +286,10 @@ module _ {x s s' : State} {i : ℕ} (a : Ample x) (v : Row x s i) (g : i < 32) (
         lit_room = ap (λ (t : State). t.clauses.lit_room) is_added ∙ v.lit_room;
         lined =
             record {
-              list = ap (λ (w : Watches). list_of w 1) watches_are ∙ one_attached s.watches i (omega (arith, v.live.lists, wide)) v.lined.list;
+              list = ap (λ (w : Watches). list_of w 1) watches_are ∙ one_attached s.watches i (omega (arith, v.live.sized.lists, wide)) v.lined.list;
               blockers =
                   subst (λ (w : Watches). BlocksTo w.blockers (suc i)) (sym watches_are)
-                  (one_blocker s.watches i (omega (arith, v.live.nodes, a.room, v.room)) v.lined.blockers);
+                  (one_blocker s.watches i (omega (arith, v.live.sized.clauses, v.live.sized.blockers, a.room, v.room)) v.lined.blockers);
             };
       }
 

@@ -49,20 +49,8 @@ fn bumps(act: &mut Activities, v: Var, n: u32)
     }
 }
 
-// Variable 1 is bumped once, then variable 2 as often as is said.
-fn bumped<'a>(cells: &'a mut [f64; 3], n: u32) -> Activities<'a>
-    ensures { length result.activities ≡ 3 }
-{
-    let mut act = Activities::new(cells);
-    bumps(&mut act, Var(1), 1);
-    bumps(&mut act, Var(2), n);
-    act
-}
-
-// The activities of three variables, and what a bump adds.
-fn activities(rt: &impl Print, n: u32) {
-    let mut cells = [1.0f64; 3];
-    let act = bumped(&mut cells, n);
+// The activities, and what a bump adds.
+fn activities(rt: &impl Print, act: &Activities) {
     for x in act.activities() {
         bits(rt, *x);
     }
@@ -81,12 +69,12 @@ fn picked(rt: &impl Print, values: &[u32; 3], act: &Activities)
 }
 
 // The pick where all variables are unset, only the first, and none.
-fn picks(rt: &impl Print, n: u32) {
-    let mut cells = [1.0f64; 3];
-    let act = bumped(&mut cells, n);
-    picked(rt, &[2, 2, 2], &act);
-    picked(rt, &[2, 0, 1], &act);
-    picked(rt, &[0, 1, 0], &act);
+fn picks(rt: &impl Print, act: &Activities)
+    requires { 3 ≤ length act.now.activities }
+{
+    picked(rt, &[2, 2, 2], act);
+    picked(rt, &[2, 0, 1], act);
+    picked(rt, &[0, 1, 0], act);
     line(rt);
 }
 
@@ -128,8 +116,13 @@ fn main(rt: HostRuntime) {
     terms(&rt, 0, 15);
     terms(&rt, 1021, 1026);
     terms(&rt, 2044, 2048);
-    activities(&rt, 0);
-    activities(&rt, 5000);
-    picks(&rt, 5000);
+    // Variable 1 is bumped once, then variable 2 often.
+    let mut cells = [1.0f64; 3];
+    let mut act = Activities::new(&mut cells);
+    bumps(&mut act, Var(1), 1);
+    activities(&rt, &act);
+    bumps(&mut act, Var(2), 5000);
+    activities(&rt, &act);
+    picks(&rt, &act);
     sets(&rt);
 }

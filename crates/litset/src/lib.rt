@@ -2,7 +2,7 @@
 #![tactic(auto)]
 
 ghost use Rattle.std.specs.Prelude.{◌≡◌, ◌<◌, [], length, get_or, replicate};
-ghost use Rattle.litset.specs.View.{inserted, emptied, Insertable, Sound, Rep};
+ghost use Rattle.litset.specs.View.{members, inserted, emptied, Insertable, Sound, Rep};
 
 use clause::Lit;
 use scratch::Lits;
@@ -35,6 +35,24 @@ impl<'a> LitSet<'a> {
             flags,
             items: Lits::new(items),
         }
+    }
+
+    // A set as it is found: the flags are those of the list's literals.
+    pub fn from_parts(flags: &'a mut [u32], items: Lits<'a>) -> LitSet<'a>
+        requires { Rep flags.old items.items }
+        ensures { result ≡ members flags.old items.entry }
+    {
+        LitSet { flags, items }
+    }
+
+    // The flags as they are now, in the caller's slice again, and the list of the members.
+    pub fn into_parts(self) -> (&'a mut [u32], Lits<'a>)
+        ensures flags { result.0.now ≡ self.entry.flag_cells }
+        ensures items { result.1 ≡ record { items = self.entry.items; cells = self.entry.item_cells } }
+        ensures rep { Rep result.0.now result.1.items }
+    {
+        let LitSet { flags, items } = self;
+        (flags, items)
     }
 
     // What is true of every set, for a caller's proof.

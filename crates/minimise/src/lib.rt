@@ -42,13 +42,13 @@ fn can_trace(trail: &Trail, mask: u32, l: Lit) -> bool
 }
 
 // A literal is marked, pushed and noted.
-fn put(scratch: &mut Scratch, l: Lit)
-    requires { Puttable scratch.old l.0 }
-    ensures { scratch.new ≡ put_in scratch.old l.0 }
+fn put(scratch: &mut Scratch, q: Lit)
+    requires { Puttable scratch.old q.0 }
+    ensures { scratch.new ≡ put_in scratch.old q.0 }
 {
-    scratch.marks.set(l.var());
-    scratch.stack.push(l);
-    scratch.notes.push(l);
+    scratch.marks.set(q.var());
+    scratch.stack.push(q);
+    scratch.notes.push(q);
 }
 
 // The literals of a reason behind the first. One at level 0 or marked is passed over, one that can be traced is marked and pushed, any other ends it: whether none did.

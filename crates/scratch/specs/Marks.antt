@@ -1,15 +1,21 @@
--- What is true of all marks.
-use Rattle.std.specs.Prelude.{ℕ, ◌<◌, ◌≡◌, false, List, eqb, length, get_or}
+-- What is true of marks that `new`, `set` and `unset` made.
+use Rattle.std.specs.Prelude.{ℕ, ◌<◌, ◌≡◌, false, List, eqb, length, get_or, set, replicate}
 use Rattle.std.specs.List.{All}
 use Rattle.std.proofs.Common.{arith}
 use Rattle.std.proofs.Math.Decide.{dec_lt}
 use Rattle.std.proofs.lemmas.Bool.{eqb-false}
 use Rattle.std.proofs.lemmas.List.{get_or_past}
-use Rattle.std.proofs.lemmas.List.Elements.{All-get_or}
+use Rattle.std.proofs.lemmas.List.Elements.{All-get_or, All-replicate, All-set}
 
 -- each cell is 0 or 1
 abbrev pub SoundMarks : List ℕ → Type 0
 SoundMarks m = All (λ x. x < 2) m
+
+pub sound_none : (n : ℕ) → SoundMarks (replicate n 0)
+sound_none n = All-replicate (λ x. x < 2) n 0 (omega arith)
+
+pub sound_set : (m : List ℕ) (v x : ℕ) → x < 2 → SoundMarks m → SoundMarks (set m v x)
+sound_set m v x low s = All-set (λ y. y < 2) m v x low s
 
 module _ (m : List ℕ) (s : SoundMarks m) (v : ℕ) where
   -- past the marks too, where `get_or` reads 0

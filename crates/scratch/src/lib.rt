@@ -2,15 +2,14 @@
 // whose marks are to be taken back.
 #![tactic(auto)]
 
-ghost use Rattle.std.specs.Prelude.{◌≡◌, ◌*◌, ◌≤◌, ◌<◌, [], ◌∷◌, ◌++◌, eqb, length, get_or, set, take, drop, replicate};
+ghost use Rattle.std.specs.Prelude.{◌≡◌, ◌*◌, ◌≤◌, ◌<◌, [], ◌∷◌, ◌++◌, eqb, length, get_or, set, take, drop, replicate, reverse};
 ghost use Rattle.std.specs.List.Sorted.{IsPermutation, IsNonDecreasing};
-ghost use Rattle.scratch.specs.Marks.{SoundMarks};
 ghost use Rattle.scratch.specs.Row.{Sound, row, pushed, put, exchanged, filled};
 
 use clause::{Lit, Var};
 use std::marker::Model;
 
-// A mark by variable: 1 where it is set, and else 0. Cells and not bools: they are lent as numbers, and the rules read a mark as a cell.
+// A mark by variable: 1 where it is set. Cells and not bools: they are lent as numbers, and the rules read a mark as a cell, which may hold any number.
 // That a variable has a mark is asked where it is used, as in crate trail.
 #[derive(Drop)]
 pub struct Marks<'a> {
@@ -23,10 +22,6 @@ impl<'a> Model for Marks<'a> {
     ghost Value = { List ℕ };
 
     ghost view = { λ m. m.cells.now };
-
-    ghost use Rattle.scratch.specs.Marks.{SoundMarks};
-
-    ghost invariant = { λ m. SoundMarks m.cells.now };
 }
 
 impl<'a> Marks<'a> {
@@ -35,14 +30,39 @@ impl<'a> Marks<'a> {
         ensures { result ≡ replicate (length cells.old) 0 }
     {
         cells.fill(0);
+        Marks::from_cells(cells)
+    }
+
+    // Marks as they are found, whatever they are.
+    pub fn from_cells(cells: &'a mut [u32]) -> Marks<'a>
+        ensures { result ≡ cells.old }
+    {
         Marks { cells }
     }
 
-    // What is true of all marks, for a caller's proof. Each block has such a method: a trait of them would have the same lines in each `impl`, and its fact besides.
-    pub fn sound(&self)
-        ensures { SoundMarks self.now }
+    // The marks as they are now, in the caller's slice again.
+    pub fn into_cells(self) -> &'a mut [u32]
+        ensures { result.now ≡ self.entry }
     {
-        let _ = &self.cells;
+        let Marks { cells } = self;
+        cells
+    }
+
+    // The number that stands as the mark of v.
+    pub fn at(&self, v: Var) -> u32
+        requires { v.0 < length self.now }
+        ensures { result ≡ get_or self.now v.0 0 }
+    {
+        let i = v.0 as usize;
+        self.cells[i]
+    }
+
+    // Any number as the mark of v.
+    pub fn put(&mut self, v: Var, x: u32)
+        requires { v.0 < length self.old }
+        ensures { self.new ≡ set self.old v.0 x }
+    {
+        self.cells[v.0 as usize] = x;
     }
 
     pub fn is_set(&self, v: Var) -> bool
@@ -52,7 +72,7 @@ impl<'a> Marks<'a> {
         self.cells[v.0 as usize] == 1
     }
 
-    // `set` and `unset`, and no function that takes 0 or 1: each call says which.
+    // The rules call `set` and `unset`, and no function that takes 0 or 1: each call says which. So a mark of theirs is 0 or 1 (`SoundMarks`).
     pub fn set(&mut self, v: Var)
         requires { v.0 < length self.old }
         ensures { self.new ≡ set self.old v.0 1 }
@@ -68,7 +88,7 @@ impl<'a> Marks<'a> {
     }
 }
 
-// A list of literals in cells that are lent, as many as they have room for: there is no heap for a Vec. No method reads a cell past its end.
+// A list of literals in cells that are lent, as many as they have room for: there is no heap for a Vec. Past its end only `cell` reads.
 #[derive(Drop)]
 pub struct Lits<'a> {
     cells: &'a mut [u32],
@@ -94,7 +114,25 @@ impl<'a> Lits<'a> {
         Lits { cells, len: 0 }
     }
 
-    // What is true of every list, for a caller's proof.
+    // A list as it is found, in the first cells.
+    pub fn from_parts(cells: &'a mut [u32], len: usize) -> Lits<'a>
+        requires { len ≤ length cells.old }
+        ensures { result ≡ row len cells.old }
+    {
+        Lits { cells, len }
+    }
+
+    // Every cell as it is now, in the caller's slice again, and how many of them are the list.
+    pub fn into_parts(self) -> (&'a mut [u32], usize)
+        ensures cells { result.0.now ≡ self.entry.cells }
+        ensures len { result.1 ≡ length self.entry.items }
+        ensures sound { Sound self.entry }
+    {
+        let Lits { cells, len } = self;
+        (cells, len)
+    }
+
+    // What is true of every list, for a caller's proof. Each block with such a fact has such a method: a trait of them would have the same lines in each `impl`, and its fact besides.
     pub fn sound(&self)
         ensures { Sound self.now }
     {
@@ -136,6 +174,25 @@ impl<'a> Lits<'a> {
         cells[k] = p.0;
     }
 
+    // What cell k holds, past the list's end too.
+    pub fn cell(&self, k: usize) -> Lit
+        requires { k < length self.now.cells }
+        ensures { result.0 ≡ get_or self.now.cells k 0 }
+    {
+        let cells = &self.cells;
+        Lit(cells[k])
+    }
+
+    // A literal into cell k, past the list's end too: there the list stays as it was.
+    pub fn set_cell(&mut self, k: usize, p: Lit)
+        requires { k < length self.old.cells }
+        ensures { self.new ≡ put self.old k p.0 }
+    {
+        let cells = &mut self.cells;
+        let x = p.0;
+        cells[k] = x;
+    }
+
     // Literals i and j change places.
     pub fn swap(&mut self, i: usize, j: usize)
         requires i_in_bounds { i < length self.old.items }
@@ -160,6 +217,19 @@ impl<'a> Lits<'a> {
     {
         put_front(self.cells, part);
         self.len = part.len();
+    }
+
+    // The literals of a slice, going up.
+    pub fn set_sorted(&mut self, part: &[u32])
+        requires { length part.now ≤ length self.old.cells }
+        ensures moved { IsPermutation part.now self.new.items }
+        ensures sorted { IsNonDecreasing self.new.items }
+        ensures cells { length self.new.cells ≡ length self.old.cells }
+    {
+        let n = part.len();
+        lay(self.cells, part);
+        self.len = n;
+        self.sort();
     }
 
     // Takes the last literal off. No Option: whoever asks knows that there is one.
@@ -192,8 +262,57 @@ impl<'a> Lits<'a> {
         ensures cells { length self.new.cells ≡ length self.old.cells }
         ensures behind { drop (length self.old.items) self.new.cells ≡ drop (length self.old.items) self.old.cells }
     {
-        self.cells[..self.len].sort_unstable();
+        put_in_order(&mut self.cells[..self.len]);
     }
+}
+
+// The library sorts so few by comparing each with each, which leaves `settle` nothing to save.
+const FEW: usize = 4;
+
+// So many it sorts by putting each to its place among those before it, as `settle` would.
+const SHORT: usize = 20;
+
+// The element at i goes down to its place among those before it, by no more than `most` exchanges; the result is how many are left.
+fn sink(list: &mut [u32], i: usize, most: usize) -> usize
+    requires { i < length list.old }
+    ensures { IsPermutation list.old list.new }
+{
+    let mut j = i;
+    let mut left = most;
+    while 0 < j && 0 < left && list[j] < list[j - 1] {
+        list.swap(j, j - 1);
+        j -= 1;
+        left -= 1;
+    }
+    left
+}
+
+// Puts a list that goes down, or is nearly in order, into order, by no more exchanges than it has elements: such lists the library sorts slowly, and clauses are written so.
+fn settle(list: &mut [u32])
+    ensures { IsPermutation list.old list.new }
+{
+    let n = list.len();
+    if FEW < n && list[n - 1] < list[0] {
+        list.reverse();
+    }
+    if n <= SHORT {
+        return;
+    }
+    let mut left = n;
+    for i in 1..n {
+        left = sink(list, i, left);
+        if left == 0 {
+            return;
+        }
+    }
+}
+
+fn put_in_order(list: &mut [u32])
+    ensures moved { IsPermutation list.old list.new }
+    ensures sorted { IsNonDecreasing list.new }
+{
+    settle(list);
+    list.sort_unstable();
 }
 
 // The first cells become those of the part: what `cells::put` does, in a crate that knows no answers.
@@ -201,7 +320,35 @@ fn put_front(cells: &mut [u32], part: &[u32])
     requires { length part.now ≤ length cells.old }
     ensures { cells.new ≡ part.now ++ drop (length part.now) cells.old }
 {
-    cells[..part.len()].copy_from_slice(part);
+    // Cell by cell: `copy_from_slice` is a call of C's memmove, which include/engine.h does not ask for.
+    for i in 0..part.len() {
+        cells[i] = part[i];
+    }
+}
+
+// The first cells become those of the part, the last one first.
+fn put_turned(cells: &mut [u32], part: &[u32])
+    requires { length part.now ≤ length cells.old }
+    ensures { cells.new ≡ reverse part.now ++ drop (length part.now) cells.old }
+{
+    let n = part.len();
+    for i in 0..n {
+        cells[i] = part[n - 1 - i];
+    }
+}
+
+// The first cells become those of the part, turned round where it goes down: then there is less to put in order.
+fn lay(cells: &mut [u32], part: &[u32])
+    requires { length part.now ≤ length cells.old }
+    ensures laid { IsPermutation part.now (take (length part.now) cells.new) }
+    ensures size { length cells.new ≡ length cells.old }
+{
+    let n = part.len();
+    if n <= FEW || part[0] <= part[n - 1] {
+        put_front(cells, part);
+        return;
+    }
+    put_turned(cells, part);
 }
 
 // Four parts of one slice that is lent: there is no heap.

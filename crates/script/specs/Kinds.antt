@@ -12,7 +12,7 @@ use Rattle.script.specs.declared.Kind.{Kind}
 use Rattle.script.specs.declared.Kind.TheVariants.{Clause, Solve}
 use Rattle.script.specs.declared.Record as code
 use Rattle.script.specs.declared.Record.TheVariants as R
-use Rattle.model.specs.Script.{Record, clause, solve, clause_kind, solve_kind, known, most_count, limits, trailing, record_as}
+use Rattle.model.specs.Script.{Record, clause, solve, clause_kind, solve_kind, known, most_count, limits, trailing, kind_of, record_as}
 
 -- ---- as the code has them
 
@@ -58,6 +58,11 @@ kind_cases P c s kind h = go (or_cases (eqb kind clause_kind) (eqb kind solve_ki
     go : (eqb kind clause_kind ≡ true) ⊎ (eqb kind solve_kind ≡ true) → P kind
     go (inl e) = subst P (sym (eqb-true kind clause_kind e)) c
     go (inr e) = subst P (sym (eqb-true kind solve_kind e)) s
+
+-- the record made of a known kind is of that kind
+pub kind_as : (kind : ℕ) (before literals behind : List ℕ) → known kind ≡ true → kind_of (record_as kind before literals behind) ≡ kind
+unfolding record_as kind_of
+kind_as kind before literals behind = kind_cases (λ k. kind_of (record_as k before literals behind) ≡ k) refl refl kind
 
 -- ---- by the tests that the code makes
 

@@ -1,5 +1,6 @@
 -- Every cell of the blocks shows in what they hold.
 use Rattle.std.specs.Prelude.{ℕ, ◌≡◌, List, [], ◌∷◌, ◌++◌}
+use Rattle.std.specs.List.{concat}
 use Rattle.std.proofs.Common.{sym, ap, ◌∙◌}
 use Rattle.trail.specs.Inside.{shown}
 use Rattle.trail.specs.Cells as trail_cells
@@ -65,3 +66,24 @@ all_shown s x y =
     let c = store_cells.all_shown _ _ _ _ _ _ _ _ _ _ (x.clauses_is ∙ sym y.clauses_is) in
     let f = litset.all_shown _ _ _ _ (x.finals_is ∙ sym y.finals_is) in
     rw (t, m, b, k, n, r, c.0, c.1, f.0, ap (λ (l : Row). l.cells) f.1)
+
+-- ---- a slice that may be longer
+
+-- what the blocks hold, and the cells behind them
+pub record Whole : Type 0 where
+  pub state : State
+  pub behind : List ℕ
+
+-- the cells of a slice that holds this
+pub record Slice (h : Whole) : Type 0 where
+  pub work : Work h.state
+  pub behind : List ℕ
+  pub behind_is : behind ≡ h.behind
+
+-- from the first cell to the last
+abbrev pub cells : {h : Whole} → Slice h → List ℕ
+cells x = concat (slices x.work) ++ x.behind
+
+-- two slices that hold the same are the same
+pub whole_shown : (h : Whole) (x y : Slice h) → cells x ≡ cells y
+whole_shown h x y = rw (all_shown h.state x.work y.work, x.behind_is ∙ sym y.behind_is)

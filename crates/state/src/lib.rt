@@ -1,12 +1,14 @@
 // The state of a run: the blocks that the work slice is divided into, and what stands beside them.
 #![tactic(auto)]
 
-ghost use Rattle.std.specs.Prelude.{◌≡◌, length};
+ghost use Rattle.std.specs.Prelude.{◌≡◌, ◌<◌, length, drop};
+ghost use Rattle.model.specs.State.{decision_level};
 ghost use Rattle.model.specs.Trail.{cancel_until};
 ghost use Rattle.options.specs.Numbers.{phase_number};
-ghost use Rattle.trail.specs.View.{back_to};
+ghost use Rattle.trail.specs.View.{back_to, Undoable};
+ghost use Rattle.state.specs.Back.{cut_to};
 ghost use Rattle.state.specs.Still.{Still, Has, Beside, state_at};
-ghost use Rattle.state.specs.Start.{Room, Started};
+ghost use Rattle.state.specs.Start.{Room, Started, used};
 ghost use Rattle.state.specs.Fresh.{Storable, Stored};
 
 use litset::LitSet;
@@ -48,6 +50,16 @@ impl<'a> State<'a> {
         requires { Room config (length work.old) }
         ensures { Started config work.old result }
     {
+        let (state, _) = State::within(config, work);
+        state
+    }
+
+    // The same, and the cells behind the blocks, which stay: no step has them.
+    pub fn within(config: Config, work: &'a mut [u32]) -> (State<'a>, &'a mut [u32])
+        requires { Room config (length work.old) }
+        ensures state { Started config work.old result.0 }
+        ensures behind { result.1.now ≡ drop (used config) work.old }
+    {
         let n = config.vars;
         let (trail, rest) = work.split_at_mut(8 * n);
         let (scratch, rest) = rest.split_at_mut(5 * n);
@@ -55,8 +67,8 @@ impl<'a> State<'a> {
         let (starts, rest) = rest.split_at_mut(config.room + 1);
         let (literals, rest) = rest.split_at_mut(config.lit_room);
         let (flags, rest) = rest.split_at_mut(2 * n);
-        let (items, _) = rest.split_at_mut(n + 1);
-        State {
+        let (items, behind) = rest.split_at_mut(n + 1);
+        let state = State {
             config,
             trail: Trail::new(trail, n),
             scratch: Scratch::new(scratch, n),
@@ -65,11 +77,11 @@ impl<'a> State<'a> {
             finals: LitSet::new(flags, items),
             qhead: 0,
             ok: true,
-        }
+        };
+        (state, behind)
     }
 
     // Back to a level: what stands above it is unset, and the phases are saved as the configuration says.
-    #[tactic(auto, unfolding(trail::specs::View::back_to))]
     pub fn cancel_until(&mut self, level: usize)
         requires { Still self.old }
         ensures has { Has self.new (cancel_until (phase_number self.old.config.phase) (state_at self.old) level) }
@@ -77,10 +89,19 @@ impl<'a> State<'a> {
         ensures stored { (self.new.watches ≡ self.old.watches) × (self.new.clauses ≡ self.old.clauses) }
         ensures trail { self.new.trail ≡ back_to (phase_number self.old.config.phase) self.old.trail level }
     {
+        let phase = self.config.phase;
+        self.back_to(level, phase);
+    }
+
+    // The same in any phase, and of a state that is not still.
+    pub fn back_to(&mut self, level: usize, phase: Phase)
+        requires { level < decision_level self.old.trail.vars → Undoable (length self.old.trail.vars.values) self.old.trail.vars level }
+        ensures { self.new ≡ cut_to (phase_number phase) self.old level }
+    {
         if self.trail.decision_level() <= level {
             return;
         }
-        self.trail.cancel_until(level, self.config.phase);
+        self.trail.cancel_until(level, phase);
         self.qhead = self.trail.assigned();
     }
 

@@ -1,9 +1,11 @@
 // Runs the state's functions over one work slice of noise. The gate compares what it writes.
 #![tactic(auto)]
 
-ghost use Rattle.std.specs.Prelude.{◌+◌, ◌<◌, ◌≡◌, length};
+ghost use Rattle.std.specs.Prelude.{◌+◌, ◌<◌, ◌≡◌, None, length};
+ghost use Rattle.clause.specs.Cells.{reason_cell};
 ghost use Rattle.state.specs.Walk.{On, More};
 ghost use Rattle.state.specs.Start.{Room};
+ghost use Rattle.tour.specs.Steps.{opened, placed, finished, unfinished};
 
 use clause::{Lit, Var};
 use litset::LitSet;
@@ -125,7 +127,9 @@ fn finals(rt: &impl Print, set: &LitSet) {
 }
 
 // Two clauses, and a third that is refused: its first literal is of no variable.
-fn store_some(rt: &impl Print, t: &mut Tour) {
+fn store_some(rt: &impl Print, t: &mut Tour)
+    ensures { t.new.config ≡ t.old.config }
+{
     t.add(Lit(0), Lit(2), Lit(5));
     t.add(Lit(1), Lit(2), Lit(6));
     t.add(Lit(8), Lit(2), Lit(6));
@@ -134,7 +138,9 @@ fn store_some(rt: &impl Print, t: &mut Tour) {
 }
 
 // The first node of list 3 gets another blocker, then goes to list 7.
-fn clauses_part(rt: &impl Print, t: &mut Tour) {
+fn clauses_part(rt: &impl Print, t: &mut Tour)
+    ensures { t.new.config ≡ t.old.config }
+{
     store_some(rt, t);
     t.reblock(Lit(3), Lit(5));
     lists(rt, t);
@@ -143,13 +149,17 @@ fn clauses_part(rt: &impl Print, t: &mut Tour) {
 }
 
 // A level, and its first literal.
-fn decide(t: &mut Tour, p: Lit) {
+fn decide(t: &mut Tour, p: Lit)
+    ensures { t.new ≡ placed (opened t.old) p.0 (reason_cell None) }
+{
     t.open();
     t.put(p, None);
 }
 
 // Two levels with one literal each, and a third with two.
-fn climb(t: &mut Tour) {
+fn climb(t: &mut Tour)
+    ensures { t.new.config ≡ t.old.config }
+{
     decide(t, Lit(1));
     decide(t, Lit(2));
     decide(t, Lit(4));
@@ -157,7 +167,9 @@ fn climb(t: &mut Tour) {
 }
 
 // Up, back to level 1, and back to level 0, with what is assigned before each way back.
-fn swing(rt: &impl Print, t: &mut Tour, phase: Phase) {
+fn swing(rt: &impl Print, t: &mut Tour, phase: Phase)
+    ensures { t.new.config ≡ t.old.config }
+{
     climb(t);
     assigned(rt, &t.state().trail);
     t.back(1, phase);
@@ -166,7 +178,9 @@ fn swing(rt: &impl Print, t: &mut Tour, phase: Phase) {
 }
 
 // Three literals, two of them the same; and none again.
-fn final_clause(rt: &impl Print, t: &mut Tour) {
+fn final_clause(rt: &impl Print, t: &mut Tour)
+    ensures { t.new ≡ unfinished (finished (finished (finished t.old 5) 0) 5) }
+{
     t.finish(Lit(5));
     t.finish(Lit(0));
     t.finish(Lit(5));
@@ -175,8 +189,9 @@ fn final_clause(rt: &impl Print, t: &mut Tour) {
     finals(rt, &t.state().finals);
 }
 
-fn run(rt: &impl Print, config: Config, work: &mut [u32])
+fn run<'a>(rt: &impl Print, config: Config, work: &'a mut [u32]) -> Tour<'a>
     requires { Room config (length work.old) }
+    ensures { result.config ≡ config }
 {
     let mut t = Tour::begin(config, work);
     clauses_part(rt, &mut t);
@@ -185,6 +200,7 @@ fn run(rt: &impl Print, config: Config, work: &mut [u32])
     swing(rt, &mut t, Phase::Limited);
     swing(rt, &mut t, Phase::Full);
     final_clause(rt, &mut t);
+    t
 }
 
 fn main(rt: HostRuntime) {
@@ -197,7 +213,8 @@ fn main(rt: HostRuntime) {
         phase: Phase::Unsaved,
         unit: 0,
     };
-    run(&rt, config, &mut work);
+    // The tour ends here, and the cells are free again.
+    let _ = run(&rt, config, &mut work);
     work.fill(0);
     // How many cells are not 0.
     let used = work.iter().filter(|x| **x != 0).count();

@@ -225,6 +225,19 @@ module _ {S L : List ℕ} {n u p : ℕ} (r : Rep S L n u p) {s : Clauses} (e : s
   unfolding shown
   lit_room_is = rw (← e)
 
+  pub cells_are : (S ≡ s.start_cells) × (L ≡ s.lit_cells)
+  unfolding shown
+  cells_are = rw (← e) (refl, refl)
+
+  pub counted : Counted s n u p
+  counted = record { clauses = count_is; literals = stored_is; pushed = pushed_is }
+
+  -- the counts tell of room what the clauses do
+  pub has_room_is : (k : ℕ) → (ltb n (length S - 1) && leb (u + k) (length L)) ≡ (ltb (length s.clauses) s.room && leb (stored_literals s.clauses + k) s.lit_room)
+  has_room_is k =
+      let room : s.room ≡ length S - 1 = omega (arith, starts_room) in
+      rw (count_is, stored_is, lit_room_is, room)
+
   pub is_sound : Sound s
   unfolding shown
   is_sound = rw (← e)

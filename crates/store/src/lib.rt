@@ -4,7 +4,7 @@
 ghost use Rattle.std.specs.Prelude.{◌≡◌, ◌&&◌, [], ◌+◌, ◌<◌, ◌≤◌, length, get_or, leb, ltb};
 ghost use Rattle.model.specs.Limits.{max_clauses, max_literals};
 ghost use Rattle.model.specs.Store.{stored_literals};
-ghost use Rattle.store.specs.View.{Sound, clause_of, next_lit, found, no_clauses, lit_set, lit_pushed, closed, discarded};
+ghost use Rattle.store.specs.View.{Rep, Sound, Counted, shown, clause_of, next_lit, found, no_clauses, lit_set, lit_pushed, closed, discarded};
 
 use clause::Lit;
 use std::marker::Model;
@@ -30,6 +30,16 @@ impl<'a> Model for Store<'a> {
     ghost invariant = { λ s. Rep s.starts.now s.literals.now s.clauses s.used s.pushed };
 }
 
+// The slices of a store and its counts, for a caller that lays out the cells or reads them.
+#[derive(Drop)]
+pub struct Parts<'a> {
+    pub starts: &'a mut [u32],
+    pub literals: &'a mut [u32],
+    pub clauses: usize,
+    pub used: usize,
+    pub pushed: usize,
+}
+
 impl<'a> Store<'a> {
     // The empty store, whatever stood in the slices: room for one clause less than it has starts.
     #[tactic(auto, using(crate::specs::Laws::new_shows))]
@@ -45,6 +55,51 @@ impl<'a> Store<'a> {
             clauses: 0,
             used: 0,
             pushed: 0,
+        }
+    }
+
+    // The store that stands in the cells: for a caller that did not begin with `new`.
+    pub fn from_parts(parts: Parts<'a>) -> Store<'a>
+        requires { Rep parts.starts.now parts.literals.now parts.clauses parts.used parts.pushed }
+        ensures { result ≡ shown parts.entry.starts.now parts.entry.literals.now parts.entry.clauses parts.entry.used parts.entry.pushed }
+    {
+        let Parts {
+            starts,
+            literals,
+            clauses,
+            used,
+            pushed,
+        } = parts;
+        Store {
+            starts,
+            literals,
+            clauses,
+            used,
+            pushed,
+        }
+    }
+
+    // The caller's slices again, with the clauses in them, and the counts.
+    #[tactic(auto, using(crate::specs::Laws::cells_are))]
+    pub fn into_parts(self) -> Parts<'a>
+        ensures rep { Rep result.starts.now result.literals.now result.clauses result.used result.pushed }
+        ensures value { shown result.starts.now result.literals.now result.clauses result.used result.pushed ≡ self.entry }
+        ensures cells { (result.starts.now ≡ self.entry.start_cells) × (result.literals.now ≡ self.entry.lit_cells) }
+        ensures counts { Counted self.entry result.clauses result.used result.pushed }
+    {
+        let Store {
+            starts,
+            literals,
+            clauses,
+            used,
+            pushed,
+        } = self;
+        Parts {
+            starts,
+            literals,
+            clauses,
+            used,
+            pushed,
         }
     }
 
@@ -131,11 +186,20 @@ impl<'a> Store<'a> {
     }
 
     // Whether a clause of n literals can be stored.
-    #[tactic(auto, using(crate::specs::Laws::count_is, crate::specs::Laws::stored_is, crate::specs::Laws::starts_room, crate::specs::Laws::lit_room_is))]
+    #[tactic(auto, using(crate::specs::Laws::has_room_is))]
     pub fn has_room(&self, n: usize) -> bool
         ensures { result ≡ (ltb (length self.now.clauses) self.now.room && leb (stored_literals self.now.clauses + n) self.now.lit_room) }
     {
-        // The sum of used and n may not fit its type.
-        self.clauses < self.starts.len() - 1 && n <= self.literals.len() - self.used
+        let room = self.starts.len() - 1;
+        room_for(room, self.literals.len(), self.clauses, self.used, n)
     }
+}
+
+// Whether there is room for a clause of n literals beside so many clauses and literals.
+pub fn room_for(room: usize, lit_room: usize, clauses: usize, literals: usize, n: usize) -> bool
+    requires { literals ≤ lit_room }
+    ensures { result ≡ (ltb clauses room && leb (literals + n) lit_room) }
+{
+    // The sum of literals and n may not fit its type.
+    clauses < room && n <= lit_room - literals
 }

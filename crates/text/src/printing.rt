@@ -55,6 +55,16 @@ impl<'a> Printer<'a> {
         self.at = end;
     }
 
+    // One byte is stored, and not copied as `bytes` would copy a slice of one: numbers are printed digit by digit.
+    fn byte(&mut self, b: u8)
+        ensures { Prints self.old self.new (b ∷ []) }
+    {
+        if self.at < self.text.len() {
+            self.text[self.at] = b;
+            self.at += 1;
+        }
+    }
+
     // A number in decimal. By hand: `write!` promises its text only where it gives Ok, and what a `Printer` prints is promised always.
     pub fn number(&mut self, n: u64)
         ensures { Prints self.old self.new (shown n) }
@@ -62,7 +72,7 @@ impl<'a> Printer<'a> {
         if 10 <= n {
             self.number(n / 10);
         }
-        self.bytes(&[b'0' + (n % 10) as u8]);
+        self.byte(b'0' + (n % 10) as u8);
     }
 
     // A key and a number on a line.
@@ -71,7 +81,7 @@ impl<'a> Printer<'a> {
     {
         self.bytes(key);
         self.number(n);
-        self.bytes(b"\n");
+        self.byte(b'\n');
     }
 
     // A literal as a signed number from 1.
@@ -79,7 +89,7 @@ impl<'a> Printer<'a> {
         ensures { Prints self.old self.new (shown_literal l) }
     {
         if l % 2 == 1 {
-            self.bytes(b"-");
+            self.byte(b'-');
         }
         self.number(l / 2 + 1);
     }
@@ -89,7 +99,7 @@ impl<'a> Printer<'a> {
         ensures { Prints self.old self.new (spaced i (shown_literal l)) }
     {
         if i != 0 {
-            self.bytes(b" ");
+            self.byte(b' ');
         }
         self.literal(l);
     }
@@ -134,7 +144,7 @@ impl<'a> Printer<'a> {
         }
         self.body_key(verdict);
         self.items(verdict, cells);
-        self.bytes(b"\n");
+        self.byte(b'\n');
     }
 
     // A solve, whose answer is the first cells of `out`.

@@ -1,32 +1,23 @@
--- The assignment that the slices of a trail hold, and what is kept true of them.
-use Rattle.std.specs.Prelude.{◌*◌, ◌≤◌, ◌≡◌, length, take}
-use Rattle.model.specs.Limits.{max_variables}
-use Rattle.trail.specs.View.{Assignment, Values}
+-- A trail's fields as its parts, which say what they show and what is kept true of them.
+use Rattle.trail.specs.View.{Assignment, Rep, assignment_of}
+use Rattle.trail.specs.declared.Parts.{Parts}
 use Rattle.trail.specs.declared.Trail.TheInside.{Inside}
 
-abbrev pub shown : Inside → Assignment
-shown t =
+abbrev pub parts_of : Inside → Parts
+parts_of t =
     record {
-      vars =
-          record {
-            values = t.values.now;
-            levels = t.levels.now;
-            reasons = t.reasons.now;
-            trail = take t.assigned t.literals.now;
-            limits = take t.depth t.limits.now;
-          };
-      phases = t.phases.now;
-      trail_cells = t.literals.now;
-      limit_cells = t.limits.now;
+      values = t.values;
+      levels = t.levels;
+      reasons = t.reasons;
+      phases = t.phases;
+      literals = t.literals;
+      limits = t.limits;
+      assigned = t.assigned;
+      depth = t.depth;
     }
 
-pub record Kept (t : Inside) : Type 0 where
-  pub levels : length t.levels.now ≡ length t.values.now
-  pub reasons : length t.reasons.now ≡ length t.values.now
-  pub phases : length t.phases.now ≡ length t.values.now
-  pub literals : length t.literals.now ≡ length t.values.now
-  pub limits : length t.limits.now ≡ 3 * length t.values.now
-  pub assigned : t.assigned ≤ length t.values.now
-  pub depth : t.depth ≤ 3 * length t.values.now
-  pub vars : length t.values.now ≤ max_variables
-  pub values : Values t.values.now
+abbrev pub shown : Inside → Assignment
+shown t = assignment_of (parts_of t)
+
+abbrev pub Kept : Inside → Type 0
+Kept t = Rep (parts_of t)

@@ -18,6 +18,9 @@ module _ (t : Inside) (k : Kept t) where
   pub limits-length : length (shown t).vars.limits ≡ t.depth
   limits-length = length-take-le t.depth t.limits.now (rw k.limits k.depth)
 
+  pub counted : (a : Assignment) → shown t ≡ a → Counted a t.assigned t.depth
+  counted a e = rw (← e) (record { assigned = trail_length; levels = limits-length })
+
 pub after_new : (n : ℕ) (a : Assignment) → Counted (initial_assignment n a) 0 0
 unfolding initial_state
 after_new n a = record { assigned = refl; levels = refl }

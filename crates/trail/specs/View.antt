@@ -4,6 +4,7 @@ use Rattle.model.specs.Limits.{max_variables}
 use Rattle.model.specs.Lit.{var, sign, l_undef}
 use Rattle.model.specs.State.{VarState, initial_state, decision_level}
 use Rattle.model.specs.Trail.{unchecked_enqueue, new_decision_level, vars_until, unset, save, saved_part, level_end}
+use Rattle.trail.specs.declared.Parts.{Parts}
 
 -- the cells of the trail and of the limits are all there, those past the ends too
 pub record Assignment : Type 0 where
@@ -144,3 +145,34 @@ undone_to phase last k a =
       trail_cells = a.trail_cells;
       limit_cells = a.limit_cells;
     }
+
+-- ---- the slices
+
+-- the assignment that they hold
+abbrev pub assignment_of : Parts → Assignment
+assignment_of p =
+    record {
+      vars =
+          record {
+            values = p.values.now;
+            levels = p.levels.now;
+            reasons = p.reasons.now;
+            trail = take p.assigned p.literals.now;
+            limits = take p.depth p.limits.now;
+          };
+      phases = p.phases.now;
+      trail_cells = p.literals.now;
+      limit_cells = p.limits.now;
+    }
+
+-- what is kept true of them
+pub record Rep (p : Parts) : Type 0 where
+  pub levels : length p.levels.now ≡ length p.values.now
+  pub reasons : length p.reasons.now ≡ length p.values.now
+  pub phases : length p.phases.now ≡ length p.values.now
+  pub literals : length p.literals.now ≡ length p.values.now
+  pub limits : length p.limits.now ≡ 3 * length p.values.now
+  pub assigned : p.assigned ≤ length p.values.now
+  pub depth : p.depth ≤ 3 * length p.values.now
+  pub vars : length p.values.now ≤ max_variables
+  pub values : Values p.values.now

@@ -9,7 +9,7 @@ ghost use Rattle.model.specs.Lit.{var, value_lit, is_true, is_false};
 ghost use Rattle.model.specs.State.{decision_level};
 ghost use Rattle.options.specs.Numbers.{phase_number};
 ghost use Rattle.clause.specs.Cells.{cell_of, reason_at, reason_cell};
-ghost use Rattle.trail.specs.View.{found, initial_assignment, enqueued, next_level, until, Undoable, LitsOf, Sound, saves, undone};
+ghost use Rattle.trail.specs.View.{found, initial_assignment, enqueued, next_level, until, Undoable, LitsOf, Sound, Counted, Rep, assignment_of, saves, undone};
 
 use clause::{Lit, NO_REASON, UNDEF, Value, Var, reason_at, reason_cell};
 use options::Phase;
@@ -39,6 +39,19 @@ impl<'a> Model for Trail<'a> {
     ghost view = { shown };
 
     ghost invariant = { Kept };
+}
+
+// The slices of a trail and how far two of them are used, for a caller that lays out the cells or reads them.
+#[derive(Drop)]
+pub struct Parts<'a> {
+    pub values: &'a mut [u32],
+    pub levels: &'a mut [u32],
+    pub reasons: &'a mut [u32],
+    pub phases: &'a mut [u32],
+    pub literals: &'a mut [u32],
+    pub limits: &'a mut [u32],
+    pub assigned: usize,
+    pub depth: usize,
 }
 
 impl<'a> Trail<'a> {
@@ -71,6 +84,61 @@ impl<'a> Trail<'a> {
         }
     }
 
+    // The trail that stands in the cells: for a caller that did not begin with `new`.
+    pub fn from_parts(parts: Parts<'a>) -> Trail<'a>
+        requires { Rep parts }
+        ensures { result ≡ assignment_of parts.entry }
+    {
+        let Parts {
+            values,
+            levels,
+            reasons,
+            phases,
+            literals,
+            limits,
+            assigned,
+            depth,
+        } = parts;
+        Trail {
+            values,
+            levels,
+            reasons,
+            phases,
+            literals,
+            limits,
+            assigned,
+            depth,
+        }
+    }
+
+    // The caller's slices again, with the assignment in them, and how far two of them are used.
+    pub fn into_parts(self) -> Parts<'a>
+        ensures rep { Rep result }
+        ensures value { assignment_of result ≡ self.entry }
+        ensures counts { Counted self.entry result.assigned result.depth }
+    {
+        let Trail {
+            values,
+            levels,
+            reasons,
+            phases,
+            literals,
+            limits,
+            assigned,
+            depth,
+        } = self;
+        Parts {
+            values,
+            levels,
+            reasons,
+            phases,
+            literals,
+            limits,
+            assigned,
+            depth,
+        }
+    }
+
     // What is true of every trail, for a caller's proof.
     pub fn sound(&self)
         ensures { Sound self.now }
@@ -96,6 +164,10 @@ impl<'a> Trail<'a> {
         requires { var p.0 < length self.now.vars.values }
         ensures { cell_of result ≡ value_lit self.now.vars.values p.0 }
     {
+        // One comparison of cells where it is true, as each assumption is that the solve before has left.
+        if self.is_true(p) {
+            return Value::True;
+        }
         p.value(self.value(p.var()))
     }
 

@@ -1,7 +1,7 @@
 -- Records of two cells: reading and setting a cell of each kind.
-use Rattle.std.specs.Prelude.{ℕ, zero, suc, ◌*◌, ◌≤◌, ◌<◌, ◌≡◌, refl, List, [], ◌∷◌, length, get_or, set, take, drop, map}
+use Rattle.std.specs.Prelude.{ℕ, zero, suc, ◌*◌, ◌≤◌, ◌<◌, ◌≡◌, refl, List, [], ◌∷◌, length, get_or, set, take, drop, map, flat_map}
 use Rattle.std.specs.Simd.{first_chunks}
-use Rattle.std.proofs.Common.{arith, sym, not-suc-le-zero, ap, ◌∙◌, length-drop, length-take-le}
+use Rattle.std.proofs.Common.{arith, sym, not-suc-le-zero, ap, ap₂, ◌∙◌, length-drop, length-take-le, take_at, drop_at}
 use Rattle.std.proofs.Math.Decide.{ℕ_discrete}
 use Rattle.std.proofs.Math.ListN.{length-map, length-set}
 use Rattle.std.proofs.Math.Seq.{get_or-set_same, get_or-set_other, map-set_same}
@@ -25,6 +25,15 @@ chunks_paired zero w h x g = absurd (not-suc-le-zero g)
 chunks_paired (suc m) w h zero g = length-take-le 2 w (omega arith)
 chunks_paired (suc m) w h (suc x) g = chunks_paired m (drop 2 w) (omega (arith, length-drop 2 w)) x (omega arith)
 
+-- the cells of records of two, one after another, are these records again
+pub chunks_flattened : (w : List (List ℕ)) → Paired w → first_chunks 2 (length w) (flat_map (λ r. r) w) ≡ w
+chunks_flattened [] p = refl
+chunks_flattened (r ∷ w) p =
+    let two : length r ≡ 2 = p 0 (omega arith) in
+    let rest : List ℕ = flat_map (λ r. r) w in
+    ap₂ (λ (x : List ℕ) (xs : List (List ℕ)). x ∷ xs) (take_at r rest 2 two)
+    (ap (first_chunks 2 (length w)) (drop_at r rest 2 two) ∙ chunks_flattened w (λ x h. p (suc x) (omega arith)))
+
 -- ---- their cells
 
 same_cells : {ls ls' ns ns' : List ℕ} → ls ≡ ls' → ns ≡ ns' → ◌≡◌ {A = Cells} (record { links = ls; notes = ns }) (record { links = ls'; notes = ns' })
@@ -45,6 +54,12 @@ module _ (w : List (List ℕ)) where
 
   pub note_low : (c : Cells) → cells_of w ≡ c → (x : ℕ) → x < length c.notes → x < length w
   note_low c e x h = omega (arith, notes_length, ap (λ (c : Cells). length c.notes) e)
+
+  -- the cells of the records, one after another, hold what they held
+  pub flattened_holds : (c : Cells) → Paired w → cells_of w ≡ c → (cs : List ℕ) → cs ≡ flat_map (λ r. r) w → cells_of (first_chunks 2 (length c.links) cs) ≡ c
+  flattened_holds c p e cs f =
+      let n : length c.links ≡ length w = sym (ap (λ (c : Cells). length c.links) e) ∙ links_length in
+      rw (n, f, chunks_flattened w p) e
 
   module _ (x : ℕ) (h : x < length w) where
     pub link_get : get_or (get_or w x []) 0 0 ≡ get_or (cells_of w).links x 0

@@ -52,7 +52,7 @@ module _ {d : Size} {c : Cells} {s : Watches} (k : Holds d c s) where
   unfolding shown
   blockers_are = ap (λ (v : Watches). v.blockers) k.view
 
-  cells_are : c ≡ s.cells
+  pub cells_are : c ≡ s.cells
   unfolding shown
   cells_are = ap (λ (v : Watches). v.cells) k.view
 
@@ -65,6 +65,14 @@ module _ {d : Size} {c : Cells} {s : Watches} (k : Holds d c s) where
 
   pub blockers_length : length s.blockers ≡ d.nodes
   blockers_length = ap length (sym blockers_are) ∙ length-take-le d.nodes c.notes (omega (arith, k.rep.room.notes))
+
+  -- a slice whose first records have the same cells holds the same lists
+  module _ (w : List ℕ) (e : cells_of (first_chunks 2 (length c.links) w) ≡ c) where
+    there_again : cells_of (first_chunks 2 (length s.blockers + 2 * length s.lists) w) ≡ c
+    there_again = rw (blockers_length, lists_length, ← k.rep.room.links) e
+
+    pub holds_again : Holds (record { slots = length s.lists; nodes = length s.blockers }) (cells_of (first_chunks 2 (length s.blockers + 2 * length s.lists) w)) s
+    holds_again = rw (there_again, blockers_length, lists_length) k
 
   pub sound_of : Sound s
   sound_of =

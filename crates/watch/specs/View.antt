@@ -182,6 +182,10 @@ pub record Holds (d : Size) (c : Cells) (s : Watches) : Type 0 where
 abbrev pub found : ℕ → ℕ → List ℕ → Watches
 found m n w = shown (record { slots = m; nodes = n }) (cells_of (first_chunks 2 (n + 2 * m) w))
 
+-- a slice's first records are laid out as m lists of n nodes
+abbrev pub LaidOut : ℕ → ℕ → List ℕ → Type 0
+LaidOut m n w = Rep (record { slots = m; nodes = n }) (cells_of (first_chunks 2 (n + 2 * m) w))
+
 -- what every value keeps: the cells hold its lists and blockers
 pub record Sound (s : Watches) : Type 0 where
   pub lists : length s.lists ≤ 2 * max_variables

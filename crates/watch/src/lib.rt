@@ -6,9 +6,10 @@
 #![tactic(auto)]
 
 ghost use Rattle.std.specs.Prelude.{◌≡◌, ◌+◌, ◌*◌, ◌≤◌, ◌<◌, [], length, get_or, ltb, replicate};
+ghost use Rattle.std.specs.Simd.{first_chunks};
 ghost use Rattle.model.specs.Limits.{max_variables, max_clauses};
 ghost use Rattle.model.specs.Lit.{neg};
-ghost use Rattle.watch.specs.View.{Sound, found, list_of, Free, Under, appended, attached, unlinked, blocked, emptied};
+ghost use Rattle.watch.specs.View.{Sound, LaidOut, cells_of, found, list_of, Free, Under, appended, attached, unlinked, blocked, emptied};
 ghost use Rattle.watch.specs.Walk.{Stands, Gone};
 
 mod table;
@@ -80,6 +81,28 @@ impl<'a> Watches<'a> {
             table.set_note(x, x as u32);
         }
         Watches { table, size }
+    }
+
+    // The lists that stand in the cells: for a caller that did not begin with `new`.
+    pub fn from_parts(cells: &'a mut [u32], slots: usize, nodes: usize) -> Watches<'a>
+        requires fits { 2 * nodes + 4 * slots ≤ length cells.old }
+        requires laid_out { LaidOut slots nodes cells.old }
+        ensures { result ≡ found slots nodes cells.old }
+    {
+        let table = Table::new(cells, nodes + 2 * slots);
+        let size = Size { slots, nodes };
+        Watches { table, size }
+    }
+
+    // The cells that the lists stand in, in the caller's slice again.
+    pub fn into_cells(self) -> &'a mut [u32]
+        ensures laid_out { LaidOut (length self.entry.lists) (length self.entry.blockers) result.now }
+        ensures value { found (length self.entry.lists) (length self.entry.blockers) result.now ≡ self.entry }
+        ensures cells { cells_of (first_chunks 2 (length self.entry.blockers + 2 * length self.entry.lists) result.now) ≡ self.entry.cells }
+        ensures count { length result.now ≡ 2 * length self.entry.blockers + 4 * length self.entry.lists }
+    {
+        let Watches { table, size: _ } = self;
+        table.into_cells()
     }
 
     // What is true of all watch lists, for a caller's proof.

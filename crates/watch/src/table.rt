@@ -34,6 +34,15 @@ impl<'a> Table<'a> {
         }
     }
 
+    // The cells of the records, one after another.
+    pub fn into_cells(self) -> &'a mut [u32]
+        ensures value { cells_of (first_chunks 2 (length self.entry.links) result.now) ≡ self.entry }
+        ensures count { length result.now ≡ 2 * length self.entry.links }
+    {
+        let Table { records } = self;
+        records.as_flattened_mut()
+    }
+
     pub fn link(&self, x: usize) -> u32
         requires { x < length self.now.links }
         ensures { result ≡ get_or self.now.links x 0 }

@@ -1,4 +1,5 @@
-use Rattle.std.proofs.Common.{◌≤◌, length, arith, refl}
+use Rattle.std.proofs.Common.{ℕ, ◌≤◌, length, arith, refl, sym, subst}
+use Rattle.minimise.specs.Notes.{Noted}
 use Rattle.minimise.specs.Redundant.{tracks_start, tracks_var, tracks_known, tracks_stored, tracks_filled, tracks_ask, tracks_pushed, tracks_noted, tracks_fail, tracks_less, tracks_turn, tracks_end}
 use Rattle.minimise.proofs.lit_redundant.Goals as goal
 
@@ -35,7 +36,8 @@ unmark-requires c =
     let p = c.requires in
     let g = c.loop-scratch.invariant in
     let h = tracks_pushed p g _ _ c.pop-q.ensures.items c.pop-q.ensures.cells c.var.ensures c.reason.ensures c.unwrap-c.ensures c.clause.ensures c.push_reason.ensures in
-    rw c.len-n.ensures (tracks_noted p g _ _ c.pop-q.ensures.items c.pop-q.ensures.cells h c.if-not-push_reason.true)
+    let k = tracks_noted p g _ _ c.pop-q.ensures.items c.pop-q.ensures.cells h c.if-not-push_reason.true in
+    subst (λ (n : ℕ). Noted c.push_reason.new.scratch.marks c.push_reason.new.scratch.notes n) (sym c.len-n.ensures) k
 
 pub returns-then-not-push_reason : goal.returns-then-not-push_reason
 returns-then-not-push_reason c =

@@ -1,7 +1,5 @@
-use Rattle.std.proofs.Common.{length-take-le}
 use Rattle.scratch.specs.Row.{put_shows}
 use Rattle.scratch.proofs.Lits.set.Goals as goal
 
 pub returns : goal.returns
-returns c =
-    rw (← c.self.view_is) (put_shows _ _ c.args.k c.args.p.0 (rw (← c.self.view_is, length-take-le _ _ c.self.invariant) at c.requires))
+returns c = rw (← c.self.view_is) (put_shows _ _ c.args.k c.args.p.0)

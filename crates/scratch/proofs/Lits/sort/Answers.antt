@@ -1,7 +1,7 @@
 use Rattle.std.proofs.Common.{◌≡◌, ◌≤◌, ◌++◌, ℕ, List, length, take, drop, arith, length-take-le, subst, sym, ◌∙◌, ap}
 use Rattle.std.proofs.Math.Seq.{take-append_seam}
 use Rattle.std.specs.List.Sorted.{IsNonDecreasing}
-use Rattle.std.proofs.lemmas.List.Sorted.{IsNonDecreasingBy-from_sort}
+use Rattle.std.proofs.lemmas.List.Sorted.{length_permutation}
 use Rattle.scratch.proofs.Lits.sort.Goals as goal
 
 sorted_front : (n : ℕ) (cells ys : List ℕ) → n ≤ length cells → length ys ≡ length (take n cells) → IsNonDecreasing ys → IsNonDecreasing (take n (ys ++ drop n cells))
@@ -11,4 +11,4 @@ sorted_front n cells ys fits l up =
 
 pub returns-clause-sorted : goal.returns-clause-sorted
 returns-clause-sorted c =
-    sorted_front _ _ _ c.self.invariant c.sort_unstable.ensures.len (IsNonDecreasingBy-from_sort (λ x. x) _ c.sort_unstable.ensures.sorted)
+    sorted_front _ _ _ c.self.invariant (length_permutation _ _ c.put_in_order.ensures.moved) c.put_in_order.ensures.sorted

@@ -16,4 +16,4 @@ pub returns : goal.returns
 returns c =
     let v : c.args.verdict ≡ Some Undef → ⊥ = search rules in
     prints_as _ (sym (body-listed (cell_of c.args.verdict) c.args.cells.now (cell_other c.args.verdict v)))
-    (prints_more (prints_more c.body_key.ensures c.items.ensures) c.bytes.ensures)
+    (prints_more (prints_more c.body_key.ensures c.items.ensures) c.byte.ensures)

@@ -4,4 +4,4 @@ use Rattle.text.proofs.printer.Printer.numbered.Goals as goal
 
 pub returns : goal.returns
 unfolding numbered
-returns c = prints_more (prints_more c.bytes.ensures c.number.ensures) c.bytes-2.ensures
+returns c = prints_more (prints_more c.bytes.ensures c.number.ensures) c.byte.ensures

@@ -1,0 +1,6 @@
+use Rattle.std.specs.Prelude.{◌≤◌, ◌≡◌, length}
+use Rattle.std.proofs.Math.Seq.{paste}
+use Rattle.scratch.proofs.put_front.Given as goal
+
+abbrev pub invariant-loop-i : goal.invariant-loop-i
+invariant-loop-i l = (l.i ≤ length l.part) × (length l.cells ≡ length l.initial.cells) × (l.cells ≡ paste l.initial.cells 0 l.part l.i)

@@ -225,6 +225,7 @@ impl<'a> Lits<'a> {
         ensures moved { IsPermutation part.now self.new.items }
         ensures sorted { IsNonDecreasing self.new.items }
         ensures cells { length self.new.cells ≡ length self.old.cells }
+        ensures behind { drop (length part.now) self.new.cells ≡ drop (length part.now) self.old.cells }
     {
         let n = part.len();
         lay(self.cells, part);
@@ -266,7 +267,7 @@ impl<'a> Lits<'a> {
     }
 }
 
-// The library sorts so few by comparing each with each, which leaves `settle` nothing to save.
+// Of so few, turning them round before the library sorts them saves nothing.
 const FEW: usize = 4;
 
 // So many it sorts by putting each to its place among those before it, as `settle` would.
@@ -342,6 +343,7 @@ fn lay(cells: &mut [u32], part: &[u32])
     requires { length part.now ≤ length cells.old }
     ensures laid { IsPermutation part.now (take (length part.now) cells.new) }
     ensures size { length cells.new ≡ length cells.old }
+    ensures behind { drop (length part.now) cells.new ≡ drop (length part.now) cells.old }
 {
     let n = part.len();
     if n <= FEW || part[0] <= part[n - 1] {

@@ -164,7 +164,7 @@ impl<'a> Trail<'a> {
         requires { var p.0 < length self.now.vars.values }
         ensures { cell_of result ≡ value_lit self.now.vars.values p.0 }
     {
-        // By comparisons of cells: a value made of the cell, and then compared, took twice as long where it is asked most, of assumptions and of the literals of a new clause.
+        // By comparisons of cells: with a value made of the cell, and then compared, clauses of twenty literals took half as long again.
         if self.is_true(p) {
             return Value::True;
         }

@@ -14,7 +14,7 @@ ghost use Rattle.analyze.specs.Second.{highest_place, Seconded};
 
 use activity::Activities;
 use clause::Lit;
-use scratch::{Lits, Marks, Scratch};
+use scratch::{Lits, MarkCells, Marks, Scratch};
 use store::Store;
 use trail::Trail;
 
@@ -23,7 +23,7 @@ use trail::Trail;
 
 // Whether a literal joins: its variable is not marked, and above level 0. Rule 4 asks the same (`is_open` of crate minimise):
 // to share the line would take a crate between the two.
-fn joins(trail: &Trail, marks: &Marks, q: Lit) -> bool
+fn joins(trail: &Trail, marks: &MarkCells, q: Lit) -> bool
     requires { (var q.0 < length trail.now.vars.values) × (length marks.now ≡ length trail.now.vars.values) }
     ensures { result ≡ is_new trail.now.vars marks.now q.0 }
 {
@@ -75,7 +75,7 @@ fn join(
 }
 
 // The last place of the trail before i whose literal is marked, 0 where there is none: whoever asks knows of one, and would unwrap an Option.
-fn last_seen(trail: &Trail, marks: &Marks, i: usize) -> usize
+fn last_seen(trail: &Trail, marks: &MarkCells, i: usize) -> usize
     requires i_in_bounds { i ≤ length trail.now.vars.trail }
     requires lits { LitsOf (length marks.now) trail.now.vars.trail }
     ensures { result ≡ last_seen marks.now trail.now.vars.trail i }
@@ -166,11 +166,21 @@ pub fn highest_second(trail: &Trail, buffer: &mut Lits) -> usize
 }
 
 // The marks of the buffer's literals behind the first are taken back: then no variable is marked.
-pub fn unmark_buffer(marks: &mut Marks, buffer: &Lits)
+pub fn unmark_cells(marks: &mut MarkCells, buffer: &Lits)
     requires { MarksOf (length marks.old) marks.old (drop 1 buffer.now.items) }
     ensures { marks.new ≡ replicate (length marks.old) 0 }
 {
     for l in buffer.rest() {
         marks.unset(Lit(*l).var());
+    }
+}
+
+// The same of `Marks`, which lend their cells to nobody: the one above would need them taken out.
+pub fn unmark_buffer(marks: &mut Marks, buffer: &Lits)
+    requires { MarksOf (length marks.old) marks.old (drop 1 buffer.now.items) }
+    ensures { marks.new ≡ replicate (length marks.old) 0 }
+{
+    for q in buffer.rest() {
+        marks.unset(Lit(*q).var());
     }
 }

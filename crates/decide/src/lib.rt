@@ -19,13 +19,13 @@ ghost use Rattle.decide.specs.Deciding.{branch_of, taken_up, Decides};
 use activity::Activities;
 use clause::{Lit, Value};
 use litset::LitSet;
-use scratch::Marks;
+use scratch::MarkCells;
 use state::State;
 use store::Store;
 use trail::Trail;
 
 // The literals of the part are marked, where they are above level 0.
-fn mark_rest(trail: &Trail, marks: &mut Marks, part: &[u32])
+fn mark_rest(trail: &Trail, marks: &mut MarkCells, part: &[u32])
     requires { LitsOf (length trail.now.vars.values) part.now × (length marks.old ≡ length trail.now.vars.values) }
     ensures { marks.new ≡ mark trail.now.vars part.now marks.old }
 {
@@ -38,7 +38,7 @@ fn mark_rest(trail: &Trail, marks: &mut Marks, part: &[u32])
 }
 
 // One literal of the trail on the way back: if it is marked, a decision goes to the final clause, and any other literal marks its reason.
-fn pass_back(trail: &Trail, clauses: &Store, marks: &mut Marks, finals: &mut LitSet, l: Lit)
+fn pass_back(trail: &Trail, clauses: &Store, marks: &mut MarkCells, finals: &mut LitSet, l: Lit)
     requires { Passable trail.now clauses.now marks.old finals.old l.0 }
     ensures { Passed trail.now clauses.now marks.old marks.new finals.old finals.new l.0 }
 {
@@ -54,7 +54,7 @@ fn pass_back(trail: &Trail, clauses: &Store, marks: &mut Marks, finals: &mut Lit
 }
 
 // Back along the trail to the first limit.
-fn blame(trail: &Trail, clauses: &Store, marks: &mut Marks, finals: &mut LitSet, start: usize)
+fn blame(trail: &Trail, clauses: &Store, marks: &mut MarkCells, finals: &mut LitSet, start: usize)
     requires { Blamable trail.now clauses.now marks.old finals.old start }
     ensures { Blamed trail.now clauses.now marks.old marks.new finals.old finals.new start }
 {

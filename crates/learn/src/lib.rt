@@ -21,7 +21,7 @@ fn reduce(s: &mut State)
         minimise::minimise(&s.trail, &s.clauses, &mut s.scratch);
     } else {
         let x = &mut s.scratch;
-        analyze::unmark_buffer(&mut x.marks, &x.buffer);
+        analyze::unmark_cells(&mut x.marks, &x.buffer);
     }
 }
 

@@ -14,7 +14,7 @@ ghost use Rattle.minimise.specs.Dropping.{Judgeable, Judges, Minimising, Shrinks
 ghost use Rattle.minimise.specs.Minimised.{Ready, Minimised};
 
 use clause::Lit;
-use scratch::{Lits, Marks, Scratch};
+use scratch::{Lits, MarkCells, Scratch};
 use store::Store;
 use trail::Trail;
 
@@ -26,7 +26,7 @@ pub fn abstract_level(level: usize) -> u32
 }
 
 // Whether a literal is above level 0 and not marked. Rule 3 asks the same (`joins` of crate analyze, which says why twice).
-fn is_open(trail: &Trail, marks: &Marks, l: Lit) -> bool
+fn is_open(trail: &Trail, marks: &MarkCells, l: Lit) -> bool
     requires { (var l.0 < length trail.now.vars.values) × (length marks.now ≡ length trail.now.vars.values) }
     ensures { result ≡ open_lit trail.now.vars marks.now l.0 }
 {
@@ -69,7 +69,7 @@ fn push_reason(trail: &Trail, scratch: &mut Scratch, mask: u32, part: &[u32]) ->
 }
 
 // The marks of the notes behind the first n are taken back, the newest first, and these notes go.
-fn unmark(marks: &mut Marks, notes: &mut Lits, n: usize)
+fn unmark(marks: &mut MarkCells, notes: &mut Lits, n: usize)
     requires { Noted marks.old notes.old n }
     ensures { Undone marks.old marks.new notes.old notes.new n }
 {

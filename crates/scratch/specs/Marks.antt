@@ -4,7 +4,7 @@ use Rattle.std.specs.List.{All}
 use Rattle.std.proofs.Common.{arith}
 use Rattle.std.proofs.Math.Decide.{dec_lt}
 use Rattle.std.proofs.lemmas.Bool.{eqb-false}
-use Rattle.std.proofs.lemmas.List.{get_or_past}
+use Rattle.std.proofs.lemmas.List.{get_or_past, get_or_default}
 use Rattle.std.proofs.lemmas.List.Elements.{All-get_or, All-replicate, All-set}
 
 -- each cell is 0 or 1
@@ -13,6 +13,10 @@ SoundMarks m = All (λ x. x < 2) m
 
 pub sound_none : (n : ℕ) → SoundMarks (replicate n 0)
 sound_none n = All-replicate (λ x. x < 2) n 0 (omega arith)
+
+-- any marks of which each, read with 0 past the end, is 0 or 1
+pub sound_cells : (m : List ℕ) → ((v : ℕ) → get_or m v 0 < 2) → SoundMarks m
+sound_cells m k v d h = rw (get_or_default m v d 0 h) (k v)
 
 pub sound_set : (m : List ℕ) (v x : ℕ) → x < 2 → SoundMarks m → SoundMarks (set m v x)
 sound_set m v x low s = All-set (λ y. y < 2) m v x low s

@@ -4,6 +4,7 @@
 
 ghost use Rattle.std.specs.Prelude.{◌≡◌, ◌*◌, ◌≤◌, ◌<◌, [], ◌∷◌, ◌++◌, eqb, length, get_or, set, take, drop, replicate, reverse};
 ghost use Rattle.std.specs.List.Sorted.{IsPermutation, IsNonDecreasing};
+ghost use Rattle.scratch.specs.Marks.{SoundMarks};
 ghost use Rattle.scratch.specs.Row.{Sound, row, pushed, put, exchanged, filled};
 
 use clause::{Lit, Var};
@@ -12,11 +13,11 @@ use std::marker::Model;
 // A mark by variable: 1 where it is set. Cells and not bools: they are lent as numbers, and the rules read a mark as a cell, which may hold any number.
 // That a variable has a mark is asked where it is used, as in crate trail.
 #[derive(Drop)]
-pub struct Marks<'a> {
+pub struct MarkCells<'a> {
     cells: &'a mut [u32],
 }
 
-impl<'a> Model for Marks<'a> {
+impl<'a> Model for MarkCells<'a> {
     ghost use Rattle.std.specs.Prelude.{ℕ, List};
 
     ghost Value = { List ℕ };
@@ -24,27 +25,27 @@ impl<'a> Model for Marks<'a> {
     ghost view = { λ m. m.cells.now };
 }
 
-impl<'a> Marks<'a> {
+impl<'a> MarkCells<'a> {
     // No mark is set, whatever the slice held.
-    pub fn new(cells: &'a mut [u32]) -> Marks<'a>
+    pub fn new(cells: &'a mut [u32]) -> MarkCells<'a>
         ensures { result ≡ replicate (length cells.old) 0 }
     {
         cells.fill(0);
-        Marks::from_cells(cells)
+        MarkCells::from_cells(cells)
     }
 
     // Marks as they are found, whatever they are.
-    pub fn from_cells(cells: &'a mut [u32]) -> Marks<'a>
+    pub fn from_cells(cells: &'a mut [u32]) -> MarkCells<'a>
         ensures { result ≡ cells.old }
     {
-        Marks { cells }
+        MarkCells { cells }
     }
 
     // The marks as they are now, in the caller's slice again.
     pub fn into_cells(self) -> &'a mut [u32]
         ensures { result.now ≡ self.entry }
     {
-        let Marks { cells } = self;
+        let MarkCells { cells } = self;
         cells
     }
 
@@ -72,7 +73,7 @@ impl<'a> Marks<'a> {
         self.cells[v.0 as usize] == 1
     }
 
-    // The rules call `set` and `unset`, and no function that takes 0 or 1: each call says which. So a mark of theirs is 0 or 1 (`SoundMarks`).
+    // `set` and `unset`, and no function that takes 0 or 1: each call says which. The rules call these alone, so a mark of theirs is 0 or 1.
     pub fn set(&mut self, v: Var)
         requires { v.0 < length self.old }
         ensures { self.new ≡ set self.old v.0 1 }
@@ -85,6 +86,80 @@ impl<'a> Marks<'a> {
         ensures { self.new ≡ set self.old v.0 0 }
     {
         self.cells[v.0 as usize] = 0;
+    }
+}
+
+// Marks that are 0 or 1, whoever made them: `MarkCells` without `put`.
+#[derive(Drop)]
+pub struct Marks<'a> {
+    cells: MarkCells<'a>,
+}
+
+impl<'a> Model for Marks<'a> {
+    ghost use Rattle.std.specs.Prelude.{ℕ, List};
+
+    ghost Value = { List ℕ };
+
+    ghost view = { λ m. m.cells };
+
+    ghost use Rattle.scratch.specs.Marks.{SoundMarks};
+
+    ghost invariant = { λ m. SoundMarks m.cells };
+}
+
+impl<'a> Marks<'a> {
+    // No mark is set, whatever the slice held.
+    pub fn new(cells: &'a mut [u32]) -> Marks<'a>
+        ensures { result ≡ replicate (length cells.old) 0 }
+    {
+        Marks {
+            cells: MarkCells::new(cells),
+        }
+    }
+
+    // Marks from elsewhere, each 0 or 1, as those of a `Scratch` that the rules alone have marked.
+    pub fn of(cells: MarkCells<'a>) -> Marks<'a>
+        requires { SoundMarks cells }
+        ensures { result ≡ cells.entry }
+    {
+        Marks { cells }
+    }
+
+    // The marks again, for a caller that puts any number.
+    pub fn into_mark_cells(self) -> MarkCells<'a>
+        ensures is { result ≡ self.entry }
+        ensures sound { SoundMarks self.entry }
+    {
+        let Marks { cells } = self;
+        cells
+    }
+
+    // What is true of all marks, for a caller's proof.
+    pub fn sound(&self)
+        ensures { SoundMarks self.now }
+    {
+        let _ = &self.cells;
+    }
+
+    pub fn is_set(&self, v: Var) -> bool
+        requires { v.0 < length self.now }
+        ensures { result ≡ eqb (get_or self.now v.0 0) 1 }
+    {
+        self.cells.is_set(v)
+    }
+
+    pub fn set(&mut self, v: Var)
+        requires { v.0 < length self.old }
+        ensures { self.new ≡ set self.old v.0 1 }
+    {
+        self.cells.set(v);
+    }
+
+    pub fn unset(&mut self, v: Var)
+        requires { v.0 < length self.old }
+        ensures { self.new ≡ set self.old v.0 0 }
+    {
+        self.cells.unset(v);
     }
 }
 
@@ -356,7 +431,7 @@ fn lay(cells: &mut [u32], part: &[u32])
 // Four parts of one slice that is lent: there is no heap.
 #[derive(Drop)]
 pub struct Scratch<'a> {
-    pub marks: Marks<'a>,
+    pub marks: MarkCells<'a>,
     // A clause under way.
     pub buffer: Lits<'a>,
     // Literals to trace.
@@ -379,7 +454,7 @@ impl<'a> Scratch<'a> {
         let (stack, rest) = rest.split_at_mut(vars);
         let (notes, _) = rest.split_at_mut(vars);
         Scratch {
-            marks: Marks::new(marks),
+            marks: MarkCells::new(marks),
             buffer: Lits::new(buffer),
             stack: Lits::new(stack),
             notes: Lits::new(notes),

@@ -5,12 +5,12 @@ use Rattle.analyze.proofs.unmark_buffer.Goals as goal
 
 pub unset-requires : goal.unset-requires
 unset-requires c =
-    let e = c.rest-l-items.ensures in
-    let h = marks_lits _ _ _ c.requires c.loop-l.l-index (omega (arith, ap (λ (xs : List ℕ). length xs) e)) in
-    omega (arith, c.loop-l.invariant.sized, c.var.ensures, ap (λ (xs : List ℕ). var (get_or xs c.loop-l.l-index 0)) e, h)
+    let e = c.rest-q-items.ensures in
+    let h = marks_lits _ _ _ c.requires c.loop-q.q-index (omega (arith, ap (λ (xs : List ℕ). length xs) e)) in
+    omega (arith, c.loop-q.invariant.sized, c.var.ensures, ap (λ (xs : List ℕ). var (get_or xs c.loop-q.q-index 0)) e, h)
 
-pub loop-l-preserved : goal.loop-l-preserved
-loop-l-preserved c = rw (c.unset.ensures, c.var.ensures) (left_less _ _ _ _ c.loop-l.invariant (omega arith))
+pub loop-q-preserved : goal.loop-q-preserved
+loop-q-preserved c = rw (c.unset.ensures, c.var.ensures) (left_less _ _ _ _ c.loop-q.invariant (omega arith))
 
 pub returns : goal.returns
-returns c = left_none _ _ _ _ c.loop-l.invariant (omega arith)
+returns c = left_none _ _ _ _ c.loop-q.invariant (omega arith)

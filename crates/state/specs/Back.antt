@@ -11,7 +11,7 @@ use Rattle.assign.proofs.Lists.{get_or_in}
 use Rattle.assign.proofs.Reading.{trail_var}
 use Rattle.assign.proofs.Back.{cancel_low, cancel_high, cancel_formed}
 use Rattle.options.specs.Numbers.{phase_number}
-use Rattle.trail.specs.View.{Assignment, Undoable, until, back_to}
+use Rattle.trail.specs.View.{Undoable, until, back_to}
 use Rattle.state.specs.declared.State.{State}
 use Rattle.state.specs.Still.{Still, Has, Beside, config_of, state_at}
 
@@ -124,3 +124,18 @@ module _ (s : State) (k : Still s) (level : ℕ) where
       })
       in
       record { still = cut_cases phase s level Still (λ h. k) goes; state = is }
+
+  -- the two cases of it: the level is not left, or it is
+  pub back_stays : decision_level s.trail.vars ≤ level → Has s (cancel_until (phase_number s.config.phase) (state_at s) level)
+  back_stays h = rw (cut_stays (phase_number s.config.phase) s level h) at back_has
+
+  module _ (h : level < decision_level s.trail.vars) where
+    -- the state with the trail cut
+    abbrev gone : State
+    gone = cut (phase_number s.config.phase) s level
+
+    pub back_goes : Has gone (cancel_until (phase_number s.config.phase) (state_at s) level)
+    back_goes = rw (cut_goes (phase_number s.config.phase) s level h) at back_has
+
+    gone_state : state_at gone ≡ cancel_until (phase_number s.config.phase) (state_at s) level
+    gone_state = back_goes.state

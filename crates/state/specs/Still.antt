@@ -7,6 +7,7 @@ use Rattle.lawbase.specs.WellFormed.{WellFormed}
 use Rattle.options.specs.Numbers.{mode_number, phase_number}
 use Rattle.trail.specs.View.{Assignment}
 use Rattle.scratch.specs.declared.Scratch.{Scratch}
+use Rattle.scratch.specs.Marks.{SoundMarks, sound_none}
 use Rattle.store.specs.View.{Clauses}
 use Rattle.litset.specs.View.{Members}
 use Rattle.watch.specs.View.{Watches, Chains, Under}
@@ -77,6 +78,10 @@ pub record Still (s : declared.State) : Type 0 where
 pub record Has (s : declared.State) (t : State) : Type 0 where
   pub still : Still s
   pub state : state_at s ≡ t
+
+-- of a still state each mark is 0 or 1
+pub still_marks : (s : declared.State) → Still s → SoundMarks s.scratch.marks
+still_marks s k = rw k.idle.marks (sound_none s.config.vars)
 
 -- what a step of the search leaves of s in s': the configuration; marks, buffers and the final clause under way
 pub record Beside (s s' : declared.State) : Type 0 where

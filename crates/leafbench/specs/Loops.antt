@@ -19,6 +19,7 @@ use Rattle.state.specs.declared.Config.{Config}
 use Rattle.state.specs.declared.State.{State}
 use Rattle.state.specs.Start.{Started}
 use Rattle.tour.specs.Live.{Live, live_started, live_stored}
+use Rattle.tour.specs.SizedLive.{SizedLive, sized_started, sized_added}
 use Rattle.tour.specs.Steps.{pick, with_trail, opened, placed, gone_back, three, added}
 use Rattle.leafbench.specs.Results.{filled, put_on, signs, blocks, hits, trues, unless_short}
 
@@ -114,7 +115,7 @@ module _ (s : State) (ps : List ℕ) {a b r : State} (v : Live b) (none : Counte
 
   is_open : a ≡ with_trail s (next_level s.trail)
   is_open =
-      opens ∙ rw (lt-ltb (decision_level s.trail.vars) (3 * s.config.vars) (omega (arith, none.levels, v.sized.some, ap (λ (g : Config). g.vars) config_open))) refl
+      opens ∙ rw (lt-ltb (decision_level s.trail.vars) (3 * s.config.vars) (omega (arith, none.levels, v.some, ap (λ (g : Config). g.vars) config_open))) refl
 
   limits_open : b.trail.vars.limits ≡ s.trail.vars.limits ++ (on s ∷ [])
   unfolding unchecked_enqueue new_decision_level
@@ -264,7 +265,7 @@ module _ {x s s' : State} {i : ℕ} (a : Ample x) (v : Row x s i) (g : i < 32) (
   is_added =
       adds
       ∙ rw
-      (lt-ltb (length s.clauses.clauses) s.clauses.room (omega (arith, a.room, v.room, v.clauses)), le-leb (stored_literals s.clauses.clauses + 3) s.clauses.lit_room (omega (arith, a.lit_room, v.lit_room, v.literals)), lt-ltb 0 (2 * s.config.vars) (omega (arith, v.live.sized.some)), lt-ltb (2 * i + 2) (2 * s.config.vars) (omega (arith, a.vars, ap (λ (c : Config). c.vars) v.config)))
+      (lt-ltb (length s.clauses.clauses) s.clauses.room (omega (arith, a.room, v.room, v.clauses)), le-leb (stored_literals s.clauses.clauses + 3) s.clauses.lit_room (omega (arith, a.lit_room, v.lit_room, v.literals)), lt-ltb 0 (2 * s.config.vars) (omega (arith, v.live.some)), lt-ltb (2 * i + 2) (2 * s.config.vars) (omega (arith, a.vars, ap (λ (c : Config). c.vars) v.config)))
       refl
 
   watches_are : s'.watches ≡ attached i 0 (2 * i + 2) s.watches
@@ -286,12 +287,23 @@ module _ {x s s' : State} {i : ℕ} (a : Ample x) (v : Row x s i) (g : i < 32) (
         lit_room = ap (λ (t : State). t.clauses.lit_room) is_added ∙ v.lit_room;
         lined =
             record {
-              list = ap (λ (w : Watches). list_of w 1) watches_are ∙ one_attached s.watches i (omega (arith, v.live.sized.lists, wide)) v.lined.list;
+              list = ap (λ (w : Watches). list_of w 1) watches_are ∙ one_attached s.watches i (omega (arith, v.live.lists, wide)) v.lined.list;
               blockers =
                   subst (λ (w : Watches). BlocksTo w.blockers (suc i)) (sym watches_are)
-                  (one_blocker s.watches i (omega (arith, v.live.sized.clauses, v.live.sized.blockers, a.room, v.room)) v.lined.blockers);
+                  (one_blocker s.watches i (omega (arith, v.live.nodes, a.room, v.room)) v.lined.blockers);
             };
       }
+
+-- ---- the same, in blocks that are all as large as the configuration asks
+
+abbrev pub SizedRow : State → State → ℕ → Type 0
+SizedRow x s i = Row x s i × SizedLive s
+
+pub sized_row_begun : {g : Config} {w : List ℕ} {s : State} → Started g w s → 1 < 2 * g.vars → SizedRow s s 0
+sized_row_begun k h = (row_begun k h, sized_started k)
+
+pub sized_row_more : {x s s' : State} {i : ℕ} → Ample x → SizedRow x s i → i < 32 → s' ≡ added s 0 (2 * i + 2) 4 → SizedRow x s' (suc i)
+sized_row_more {i = i} a v g adds = (row_more a v.0 g adds, rw adds (sized_added v.1 0 (2 * i + 2) 4))
 
 -- ---- a walk
 

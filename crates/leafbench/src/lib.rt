@@ -5,12 +5,12 @@ ghost use Rattle.std.specs.Prelude.{◌*◌, ◌<◌, ◌≤◌, ◌≡◌, leng
 ghost use Rattle.trail.specs.View.{Counted};
 ghost use Rattle.watch.specs.View.{list_of};
 ghost use Rattle.leafbench.specs.Results.{filled, put_on, blocks, hits, leaf_trail, leaf_watch, leaf_work};
-ghost use Rattle.leafbench.specs.Loops.{Ample, Row};
+ghost use Rattle.leafbench.specs.Loops.{Ample, SizedRow};
 
 use clause::Lit;
 use options::{Mode, Phase};
 use state::Config;
-use tour::Tour;
+use tour::SizedTour;
 
 // With 64 variables.
 const CONFIG: Config = Config {
@@ -23,7 +23,7 @@ const CONFIG: Config = Config {
 };
 
 // The literals of `order` go on the trail.
-fn fill(t: &mut Tour, order: &[u32])
+fn fill(t: &mut SizedTour, order: &[u32])
     ensures { t.new ≡ filled t.old order.now }
 {
     for p in order {
@@ -32,7 +32,7 @@ fn fill(t: &mut Tour, order: &[u32])
 }
 
 // A level is opened, filled and taken back: how many literals were put on the trail.
-fn turn(t: &mut Tour, order: &[u32]) -> usize
+fn turn(t: &mut SizedTour, order: &[u32]) -> usize
     requires { Counted t.old.trail 0 0 }
     ensures config { t.new.config ≡ t.old.config }
     ensures none { Counted t.new.trail 0 0 }
@@ -45,7 +45,7 @@ fn turn(t: &mut Tour, order: &[u32]) -> usize
     n
 }
 
-fn turns(t: &mut Tour, order: &[u32], n: u32) -> u64
+fn turns(t: &mut SizedTour, order: &[u32], n: u32) -> u64
     requires none { Counted t.old.trail 0 0 }
     requires order { length order.now ≤ 64 }
     ensures { result ≡ n * put_on t.old.config.vars 0 order.now }
@@ -58,10 +58,10 @@ fn turns(t: &mut Tour, order: &[u32], n: u32) -> u64
 }
 
 // 32 clauses whose first literal is 0.
-fn clauses(t: &mut Tour)
+fn clauses(t: &mut SizedTour)
     requires ample { Ample t.old }
-    requires row { Row t.old t.old 0 }
-    ensures { Row t.old t.new 32 }
+    requires row { SizedRow t.old t.old 0 }
+    ensures { SizedRow t.old t.new 32 }
 {
     for i in 0..32u32 {
         t.add(Lit(0), Lit(2 * i + 2), Lit(4));
@@ -69,7 +69,7 @@ fn clauses(t: &mut Tour)
 }
 
 // Whether the blocker of node x is true.
-fn blocks(t: &Tour, x: usize) -> bool
+fn blocks(t: &SizedTour, x: usize) -> bool
     requires { x < length t.now.watches.blockers }
     ensures { result ≡ blocks t.now (get_or t.now.watches.blockers x 0) }
 {
@@ -79,7 +79,7 @@ fn blocks(t: &Tour, x: usize) -> bool
 }
 
 // The list of l is walked: how many of its blockers are true.
-fn walk(t: &Tour, l: Lit) -> u64
+fn walk(t: &SizedTour, l: Lit) -> u64
     requires { (l.0 < 2 * t.now.config.vars) × (length (list_of t.now.watches l.0) ≤ 32) }
     ensures { result ≡ hits t.now (list_of t.now.watches l.0) }
 {
@@ -95,7 +95,7 @@ fn walk(t: &Tour, l: Lit) -> u64
 }
 
 // As `turns`: one function of both would take a closure, and be no shorter.
-fn walks(t: &Tour, l: Lit, n: u32) -> u64
+fn walks(t: &SizedTour, l: Lit, n: u32) -> u64
     requires { (l.0 < 2 * t.now.config.vars) × (length (list_of t.now.watches l.0) ≤ 32) }
     ensures { result ≡ n * hits t.now (list_of t.now.watches l.0) }
 {
@@ -116,7 +116,7 @@ pub fn leaf_trail(work: &mut [u32], order: &[u32], n: u32) -> u64
     if work.len() < 2114 || order.len() < 64 {
         return 0;
     }
-    let mut t = Tour::begin(CONFIG, work);
+    let mut t = SizedTour::begin(CONFIG, work);
     let k = turns(&mut t, &order[..64], n);
     work.fill(0);
     k
@@ -130,7 +130,7 @@ pub fn leaf_watch(work: &mut [u32], order: &[u32], n: u32) -> u64
     if work.len() < 2114 || order.len() < 64 {
         return 0;
     }
-    let mut t = Tour::begin(CONFIG, work);
+    let mut t = SizedTour::begin(CONFIG, work);
     clauses(&mut t);
     fill(&mut t, &order[..64]);
     let k = walks(&t, Lit(1), n);

@@ -12,7 +12,7 @@ use litset::LitSet;
 use options::{Mode, Phase};
 use state::Config;
 use store::Store;
-use tour::Tour;
+use tour::SizedTour;
 use trail::Trail;
 use watch::{Cursor, Watches};
 
@@ -111,7 +111,7 @@ fn list(rt: &impl Print, w: &Watches, l: Lit)
     put(rt, "| ");
 }
 
-fn lists(rt: &impl Print, t: &Tour) {
+fn lists(rt: &impl Print, t: &SizedTour) {
     put(rt, "watches ");
     let s = t.state();
     for l in 0..2 * s.config.vars {
@@ -127,7 +127,7 @@ fn finals(rt: &impl Print, set: &LitSet) {
 }
 
 // Two clauses, and a third that is refused: its first literal is of no variable.
-fn store_some(rt: &impl Print, t: &mut Tour)
+fn store_some(rt: &impl Print, t: &mut SizedTour)
     ensures { t.new.config ≡ t.old.config }
 {
     t.add(Lit(0), Lit(2), Lit(5));
@@ -138,7 +138,7 @@ fn store_some(rt: &impl Print, t: &mut Tour)
 }
 
 // The first node of list 3 gets another blocker, then goes to list 7.
-fn clauses_part(rt: &impl Print, t: &mut Tour)
+fn clauses_part(rt: &impl Print, t: &mut SizedTour)
     ensures { t.new.config ≡ t.old.config }
 {
     store_some(rt, t);
@@ -149,7 +149,7 @@ fn clauses_part(rt: &impl Print, t: &mut Tour)
 }
 
 // A level, and its first literal.
-fn decide(t: &mut Tour, p: Lit)
+fn decide(t: &mut SizedTour, p: Lit)
     ensures { t.new ≡ placed (opened t.old) p.0 (reason_cell None) }
 {
     t.open();
@@ -157,7 +157,7 @@ fn decide(t: &mut Tour, p: Lit)
 }
 
 // Two levels with one literal each, and a third with two.
-fn climb(t: &mut Tour)
+fn climb(t: &mut SizedTour)
     ensures { t.new.config ≡ t.old.config }
 {
     decide(t, Lit(1));
@@ -167,7 +167,7 @@ fn climb(t: &mut Tour)
 }
 
 // Up, back to level 1, and back to level 0, with what is assigned before each way back.
-fn swing(rt: &impl Print, t: &mut Tour, phase: Phase)
+fn swing(rt: &impl Print, t: &mut SizedTour, phase: Phase)
     ensures { t.new.config ≡ t.old.config }
 {
     climb(t);
@@ -178,7 +178,7 @@ fn swing(rt: &impl Print, t: &mut Tour, phase: Phase)
 }
 
 // Three literals, two of them the same; and none again.
-fn final_clause(rt: &impl Print, t: &mut Tour)
+fn final_clause(rt: &impl Print, t: &mut SizedTour)
     ensures { t.new ≡ unfinished (finished (finished (finished t.old 5) 0) 5) }
 {
     t.finish(Lit(5));
@@ -189,11 +189,11 @@ fn final_clause(rt: &impl Print, t: &mut Tour)
     finals(rt, &t.state().finals);
 }
 
-fn run<'a>(rt: &impl Print, config: Config, work: &'a mut [u32]) -> Tour<'a>
+fn run<'a>(rt: &impl Print, config: Config, work: &'a mut [u32]) -> SizedTour<'a>
     requires { Room config (length work.old) }
     ensures { result.config ≡ config }
 {
-    let mut t = Tour::begin(config, work);
+    let mut t = SizedTour::begin(config, work);
     clauses_part(rt, &mut t);
     // In each of the phase modes.
     swing(rt, &mut t, Phase::Unsaved);

@@ -1,2 +1,3 @@
 pub mod Live
+pub mod SizedLive
 pub mod Steps

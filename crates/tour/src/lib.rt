@@ -11,8 +11,11 @@ ghost use Rattle.state.specs.Start.{Room, Started};
 ghost use Rattle.tour.specs.Live.{Live};
 ghost use Rattle.tour.specs.Steps.{opened, placed, gone_back, reblocked, sent, three, added, finished, unfinished};
 
+mod sized;
+
 use clause::Lit;
 use options::Phase;
+pub use sized::SizedTour;
 use state::{Config, State};
 use std::marker::Model;
 

@@ -1,0 +1,5 @@
+// Tests of what other crates may call and no program here does, as another crate would call it.
+#![tactic(auto)]
+
+#[cfg(test)]
+mod tests;
